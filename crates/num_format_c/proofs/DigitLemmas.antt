@@ -10,8 +10,8 @@ use Rattle.num_format_digits.specs.Digits.{in_digits, set_numbered}
 use Rattle.num_format_digits.proofs.SetLemmas.{latin_first}
 use Rattle.num_format_digits.proofs.TextLemmas.{in_latin}
 use Rattle.num_format_c.specs.Calls.{PrintsText, ReturnsLength, Writes}
-use Rattle.num_format_c.specs.Columns.{Parsed, ParsesUnder, UnderFormat, rows_in}
-use Rattle.num_format_c.specs.Held.{HasFormat, HasLatin, IsFormatIn, IsParserIn, digits_of, format_of}
+use Rattle.num_format_c.specs.Columns.{UnderFormat, rows_in}
+use Rattle.num_format_c.specs.Held.{HasFormat, HasLatin, IsFormatIn, digits_of, format_of}
 use Rattle.num_format_c.specs.declared.format.NumFormat.{NumFormat}
 
 -- the texts of rows are as they are
@@ -38,24 +38,6 @@ written_at text old new n front rest within same =
       };
       too_small = λ short. absurd (omega (arith, size, within, same, short));
     }
-
--- what is parsed by a parser of the format that a struct has is parsed under the struct
-pub parses_under : (s : NumFormat) (IsClear : FormatData → Type 0) (Parsing : Type 0) (old new : Parsed) (result : ℤ)
-    → (parser f : FormatData) (zero : ℕ) → IsFormatIn f zero s → parser ≡ f → IsClear f → (IsParserIn parser f zero s → Parsing)
-    → ParsesUnder IsClear s Parsing old new result
-parses_under s IsClear Parsing old new result parser f z has same clear parses = record {
-  bad_format = λ none. absurd (none has.0);
-  ambiguous = λ _ wrong. absurd (wrong (subst IsClear has.2 clear));
-  parsed = λ _ _. parses (subst (λ g. IsFormatIn g z s) (sym same) has, has);
-}
-
--- so is what is parsed by a parser in 0 to 9
-pub parses_latin : (s : NumFormat) (IsClear : FormatData → Type 0) (Parsing : Type 0) (old new : Parsed) (result : ℤ)
-    → (parser f : FormatData) (zero : ℕ) → IsFormatIn f zero s → parser ≡ f → IsClear f → (zero == 48) ≡ true
-    → (IsFormatIn parser 48 s → Parsing) → ParsesUnder IsClear s Parsing old new result
-parses_latin s IsClear Parsing old new result parser f z has same clear latin parses =
-    parses_under s IsClear Parsing old new result parser f z has same clear
-    (λ both. parses (subst (λ d. IsFormatIn parser d s) (eqb-true z 48 latin) both.0))
 
 module _ (s : NumFormat) (given : HasLatin s) where
   numbered : set_numbered s.digits ≡ Some 48

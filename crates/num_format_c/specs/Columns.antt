@@ -70,30 +70,24 @@ pub record UnderFormat {A : Type 0} (s : NumFormat) (Does : FormatData → (zero
   pub bad_format : ¬ HasFormat s → Fails BadFormat old new result
   pub format : HasFormat s → Does (format_of s) (digits_of s)
 
--- numbers of a type are printed under a format, in the digits of a zero
-abbrev pub PrintsType : ValueType → OffsetType → Values → (old new : Printed) → (result : ℤ) → FormatData → (zero : ℕ) → Type 0
-PrintsType type t values old new result f z = MatchType type (λ v.
-    PrintsCounted (rows_in z (row_text v (text_of f) values.bytes.now values.validity))
-    (row_count v values.bytes.now values.validity) t old new result)
-
--- so are decimals of a scale
-abbrev pub PrintsUnits : (scale : ℕ) → OffsetType → Values → (old new : Printed) → (result : ℤ) → FormatData → (zero : ℕ) → Type 0
-PrintsUnits scale t units old new result f z =
-    PrintsCounted (rows_in z (row_text decimal_units (decimal_at scale f) units.bytes.now units.validity))
-    (row_count decimal_units units.bytes.now units.validity) t old new result
+-- the values of a column are printed under the format of a struct, in its digits
+abbrev pub PrintsValues : Representation → (FormatData → ℤ → List ℕ) → OffsetType → NumFormat → Values → (old new : Printed) → (result : ℤ) → Type 0
+PrintsValues v text t s values old new result = UnderFormat s (λ f z.
+    PrintsCounted (rows_in z (row_text v (text f) values.bytes.now values.validity)) (row_count v values.bytes.now values.validity) t
+    old new result) old new result
 
 -- numbers of the type for which a number stands are printed
 abbrev pub PrintsNumbers : (value_code offset_code : ℕ) → NumFormat → Values → (old new : Printed) → (result : ℤ) → Type 0
 PrintsNumbers value_code offset_code s values old new result =
     MatchOption (value_type_of value_code) (Fails BadType old new result) (λ type.
     MatchOption (offset_type_of offset_code) (Fails BadType old new result) (λ t.
-    UnderFormat s (PrintsType type t values old new result) old new result))
+    MatchType type (λ v. PrintsValues v text_of t s values old new result)))
 
 -- decimals of one scale are printed
 pub record PrintsDecimals (scale offset_code : ℕ) (s : NumFormat) (units : Values) (old new : Printed) (result : ℤ) : Type 0 where
   pub bad_scale : MAX_SCALE < scale → Fails BadScale old new result
   pub column : scale ≤ MAX_SCALE → MatchOption (offset_type_of offset_code) (Fails BadType old new result) (λ t.
-      UnderFormat s (PrintsUnits scale t units old new result) old new result)
+      PrintsValues decimal_units (decimal_at scale) t s units old new result)
 
 -- the length of some texts is written
 pub record Measures (total old new : ℕ) (result : ℤ) : Type 0 where
@@ -105,24 +99,22 @@ abbrev pub MeasuresCounted : (ℕ → List ℕ) → Option ℕ → (old new : �
 MeasuresCounted text count old new result = MatchOption count (Fails BadLength old new result)
     (λ n. Measures (length (texts_of text n)) old new result)
 
--- that of the texts of numbers of a type under a format, in the digits of a zero
-abbrev pub MeasuresType : ValueType → Values → (old new : ℕ) → (result : ℤ) → FormatData → (zero : ℕ) → Type 0
-MeasuresType type values old new result f z = MatchType type (λ v.
-    MeasuresCounted (rows_in z (row_text v (text_of f) values.bytes.now values.validity))
-    (row_count v values.bytes.now values.validity) old new result)
+-- that of the texts of a column under the format of a struct, in its digits
+abbrev pub MeasuresValues : Representation → (FormatData → ℤ → List ℕ) → NumFormat → Values → (old new : ℕ) → (result : ℤ) → Type 0
+MeasuresValues v text s values old new result = UnderFormat s (λ f z.
+    MeasuresCounted (rows_in z (row_text v (text f) values.bytes.now values.validity)) (row_count v values.bytes.now values.validity)
+    old new result) old new result
 
 -- that of the texts of numbers of the type for which a number stands is written
 abbrev pub MeasuresNumbers : (value_code : ℕ) → NumFormat → Values → (old new : ℕ) → (result : ℤ) → Type 0
 MeasuresNumbers value_code s values old new result =
     MatchOption (value_type_of value_code) (Fails BadType old new result) (λ type.
-    UnderFormat s (MeasuresType type values old new result) old new result)
+    MatchType type (λ v. MeasuresValues v text_of s values old new result))
 
 -- that of the texts of decimals of one scale is written
 pub record MeasuresDecimals (scale : ℕ) (s : NumFormat) (units : Values) (old new : ℕ) (result : ℤ) : Type 0 where
   pub bad_scale : MAX_SCALE < scale → Fails BadScale old new result
-  pub column : scale ≤ MAX_SCALE →
-      UnderFormat s (λ f zero. MeasuresCounted (rows_in zero (row_text decimal_units (decimal_at scale f) units.bytes.now units.validity))
-      (row_count decimal_units units.bytes.now units.validity) old new result) old new result
+  pub column : scale ≤ MAX_SCALE → MeasuresValues decimal_units (decimal_at scale) s units old new result
 
 -- what a call that parses one text does: the struct, the text, the number before and after, and what is returned
 abbrev pub RowParser : Type 1
@@ -173,35 +165,39 @@ abbrev pub ParsesValues : RowParser → Representation → OffsetType → NumFor
 ParsesValues Parses v t s c old new result =
     MatchOption (row_count v old.values c.validity) (Fails BadLength old new result) (ParsesRows Parses v t s c old new result)
 
--- a call parses under the format of a struct, if it is one by which no text can be misread
-pub record ParsesUnder (IsClear : FormatData → Type 0) (s : NumFormat) (Parsing : Type 0) (old new : Parsed) (result : ℤ) : Type 0 where
+-- the texts of a column are parsed under the format of a struct, if it is one by which no text can be misread
+pub record ParsesUnder (IsClear : FormatData → Type 0) (Parses : RowParser) (v : Representation) (t : OffsetType) (s : NumFormat) (c : Texts)
+    (old new : Parsed) (result : ℤ) : Type 0 where
   pub bad_format : ¬ HasFormat s → Fails BadFormat old new result
   pub ambiguous : HasFormat s → ¬ IsClear (format_of s) → Fails AmbiguousFormat old new result
-  pub parsed : HasFormat s → IsClear (format_of s) → Parsing
+  pub parsed : HasFormat s → IsClear (format_of s) → ParsesValues Parses v t s c old new result
 
--- a call parses leniently, which takes any format whose digits are 0 to 9
-pub record ParsesLatin (s : NumFormat) (Parsing : Type 0) (old new : Parsed) (result : ℤ) : Type 0 where
+-- they are parsed leniently, which takes any format whose digits are 0 to 9
+pub record ParsesLatin (k : Kind) (v : Representation) (t : OffsetType) (s : NumFormat) (c : Texts) (old new : Parsed)
+    (result : ℤ) : Type 0 where
   pub bad_format : ¬ HasLatin s → Fails BadFormat old new result
-  pub parsed : HasLatin s → Parsing
+  pub parsed : HasLatin s → ParsesValues (ParsesInto k) v t s c old new result
 
--- numbers of the type for which a number stands are parsed: strictly, as people type them, or leniently
+-- they are parsed as numbers of a kind: strictly, as people type them, or leniently
+pub record ParsesInMode (mode : ℕ) (k : Kind) (v : Representation) (t : OffsetType) (s : NumFormat) (c : Texts) (old new : Parsed)
+    (result : ℤ) : Type 0 where
+  pub strictly : mode ≡ 0 → ParsesUnder IsUnambiguous (Row (numbers k) (λ z. z)) v t s c old new result
+  pub typed : mode ≡ 2 → ParsesUnder IsTypable (Row (typed_numbers k) (λ z. z)) v t s c old new result
+  pub leniently : mode ≢ 0 → mode ≢ 2 → ParsesLatin k v t s c old new result
+
+-- numbers of the type for which a number stands are parsed
 abbrev pub ParsesNumbers : (value_code offset_code mode : ℕ) → NumFormat → Texts → (old new : Parsed) → (result : ℤ) → Type 0
 ParsesNumbers value_code offset_code mode s c old new result =
     MatchOption (value_type_of value_code) (Fails BadType old new result) (λ type.
     MatchOption (offset_type_of offset_code) (Fails BadType old new result) (λ t.
-    (mode ≡ 0 → ParsesUnder IsUnambiguous s
-    (MatchType type (λ v. ParsesValues (Row (numbers v.kind) (λ z. z)) v t s c old new result)) old new result)
-    × (mode ≡ 2 → ParsesUnder IsTypable s
-    (MatchType type (λ v. ParsesValues (Row (typed_numbers v.kind) (λ z. z)) v t s c old new result)) old new result)
-    × (mode ≢ 0 → mode ≢ 2 → ParsesLatin s
-    (MatchType type (λ v. ParsesValues (ParsesInto v.kind) v t s c old new result)) old new result)))
+    MatchType type (λ v. ParsesInMode mode v.kind v t s c old new result)))
 
 -- decimals of one scale are parsed
 pub record ParsesDecimals {E : Type 0} (p : Parsing FixedPoint E) (IsClear : FormatData → Type 0) (scale offset_code : ℕ)
     (s : NumFormat) (c : Texts) (old new : Parsed) (result : ℤ) : Type 0 where
   pub bad_scale : MAX_SCALE < scale → Fails BadScale old new result
   pub column : scale ≤ MAX_SCALE → MatchOption (offset_type_of offset_code) (Fails BadType old new result) (λ t.
-      ParsesUnder IsClear s (ParsesValues (Row p (λ d. d.units)) decimal_units t s c old new result) old new result)
+      ParsesUnder IsClear (Row p (λ d. d.units)) decimal_units t s c old new result)
 
 -- a format is taken for decimals that people type
 abbrev pub TypesDecimals : FormatData → Type 0

@@ -1,6 +1,7 @@
 //! What the calls for columns do, with Rust's types.
 ghost use Rattle.std.specs.Prelude.{◌≡◌, ◌≢◌, ℕ, ℤ, ◌+◌, ◌*◌, ◌<◌, ◌≤◌, min, length, pos, IsTrue, MatchOption};
 ghost use Rattle.std.specs.Prelude.{MatchResult};
+ghost use Rattle.num_format.specs.Strict.{IsUnambiguous};
 ghost use Rattle.num_format.specs.Text.{text_of};
 ghost use Rattle.num_format_decimal.specs.FixedPoint.{fixed_point};
 ghost use Rattle.num_format_decimal.specs.declared.buffer.TheConstants.{MAX_DECIMAL_LEN};
@@ -9,16 +10,18 @@ ghost use Rattle.num_format_digits.specs.Digits.{in_digits};
 ghost use Rattle.num_format_digits.specs.declared.printing.TheConstants.{MAX_DIGIT_TEXT_LEN};
 ghost use Rattle.num_format_c.specs.Calls.{Fails, ParsesInto, at_scale, code, crossed, mapped, numbers, returned};
 ghost use Rattle.num_format_c.specs.Calls.{typed_at_scale, typed_numbers};
-ghost use Rattle.num_format_c.specs.Columns.{AreParsed, HasLengths, HasOffsets, MeasuresCounted, MeasuresDecimals};
-ghost use Rattle.num_format_c.specs.Columns.{MeasuresNumbers, MeasuresType, Measures, ParsesDecimals, ParsesNumbers};
-ghost use Rattle.num_format_c.specs.Columns.{ParsesRow, ParsesTypedInto, ParsesValues, PrintsCounted, PrintsDecimals};
-ghost use Rattle.num_format_c.specs.Columns.{PrintsNumbers, PrintsRows, PrintsType, Row, RowParser, TypesDecimals};
+ghost use Rattle.num_format_c.specs.Columns.{AreParsed, HasLengths, HasOffsets, Measures, MeasuresDecimals};
+ghost use Rattle.num_format_c.specs.Columns.{MeasuresNumbers, MeasuresValues, ParsesDecimals, ParsesInMode};
+ghost use Rattle.num_format_c.specs.Columns.{ParsesNumbers, ParsesRow, ParsesTypedInto, ParsesUnder, ParsesValues};
+ghost use Rattle.num_format_c.specs.Columns.{PrintsDecimals, PrintsNumbers, PrintsRows, PrintsValues, Row, RowParser};
+ghost use Rattle.num_format_c.specs.Columns.{TypesDecimals};
 ghost use Rattle.num_format_c.specs.Columns.{decimal_at, decimal_units, rows_in, to_parsed, to_printed};
-ghost use Rattle.num_format_c.specs.Held.{IsFormatIn, IsFormatOf, IsParserIn};
+ghost use Rattle.num_format_c.specs.Held.{IsFormatIn, IsFormatOf, IsParserIn, format_with};
 ghost use Rattle.num_format_c.specs.Layout.{IsEnough, MatchType, number_at, row_bytes, row_count, row_text, texts_of};
 ghost use Rattle.num_format_c.specs.Layout.{value_type_of};
 ghost use Rattle.num_format_c.specs.declared.status.Status.TheVariants.{BadType};
 ghost use Rattle.num_format_decimal.specs.Marks.{MarksDecimals};
+ghost use Rattle.num_format_typed.specs.Typed.{IsTypable};
 
 use crate::calls::{self, in_others};
 use crate::format::{Held, NumFormat};
@@ -44,18 +47,18 @@ const TYPED: u32 = 2;
 
 /// Calls a function for the integer type that a type of values is.
 macro_rules! for_type {
-    ($value_type:expr, $call:ident($($argument:expr),*)) => {
+    ($value_type:expr => $call:ident($($argument:expr),*)) => {
         match $value_type {
-            ValueType::I8 => $call::<i8, _>($($argument),*),
-            ValueType::U8 => $call::<u8, _>($($argument),*),
-            ValueType::I16 => $call::<i16, _>($($argument),*),
-            ValueType::U16 => $call::<u16, _>($($argument),*),
-            ValueType::I32 => $call::<i32, _>($($argument),*),
-            ValueType::U32 => $call::<u32, _>($($argument),*),
-            ValueType::I64 => $call::<i64, _>($($argument),*),
-            ValueType::U64 => $call::<u64, _>($($argument),*),
-            ValueType::I128 => $call::<i128, _>($($argument),*),
-            ValueType::U128 => $call::<u128, _>($($argument),*),
+            ValueType::I8 => $call::<i8>($($argument),*),
+            ValueType::U8 => $call::<u8>($($argument),*),
+            ValueType::I16 => $call::<i16>($($argument),*),
+            ValueType::U16 => $call::<u16>($($argument),*),
+            ValueType::I32 => $call::<i32>($($argument),*),
+            ValueType::U32 => $call::<u32>($($argument),*),
+            ValueType::I64 => $call::<i64>($($argument),*),
+            ValueType::U64 => $call::<u64>($($argument),*),
+            ValueType::I128 => $call::<i128>($($argument),*),
+            ValueType::U128 => $call::<u128>($($argument),*),
         }
     };
 }
@@ -209,55 +212,24 @@ pub fn print(
 {
     let value_type = ValueType::from_code(value_code).ok_or(Status::BadType)?;
     let offset_type = OffsetType::from_code(offset_code).ok_or(Status::BadType)?;
-    let (format, digits) = Held::new(format)?;
-    print_type(
-        value_type,
-        &format,
-        digits,
-        values,
-        offset_type,
-        offsets,
-        bytes,
-        len,
-    )
-}
-
-/// Prints the numbers of a type.
-fn print_type<F: Format>(
-    value_type: ValueType,
-    format: &F,
-    digits: Digits,
-    values: &Values,
-    offset_type: OffsetType,
-    offsets: &mut [u8],
-    bytes: &mut [u8],
-    len: &mut usize,
-) -> Result<i32, Status>
-    ensures { PrintsType value_type offset_type values.now (to_printed offsets.old bytes.old len.old)
-        (to_printed offsets.new bytes.new len.new) (returned result) (F.answers format.now) digits }
-{
-    for_type!(
-        value_type,
-        print_numbers(format, digits, values, offset_type, offsets, bytes, len)
-    )
+    for_type!(value_type => print_numbers(format, values, offset_type, offsets, bytes, len))
 }
 
 /// Prints the numbers of an integer type.
-fn print_numbers<N: Value, F: Format>(
-    format: &F,
-    digits: Digits,
+fn print_numbers<N: Value>(
+    format: &NumFormat,
     values: &Values,
     offset_type: OffsetType,
     offsets: &mut [u8],
     bytes: &mut [u8],
     len: &mut usize,
 ) -> Result<i32, Status>
-    ensures { PrintsCounted
-        (rows_in digits (row_text N.repr (text_of (F.answers format.now)) values.now.bytes.now values.now.validity))
-        (row_count N.repr values.now.bytes.now values.now.validity) offset_type
+    ensures { PrintsValues N.repr text_of offset_type format.now values.now
         (to_printed offsets.old bytes.old len.old) (to_printed offsets.new bytes.new len.new) (returned result) }
 {
+    let (format, digits) = Held::new(format)?;
     let rows = Rows::<N>::new(values)?;
+    let format = &format;
     let printer = NumberPrinter { rows, format };
     print_in(&printer, digits, offset_type, offsets, bytes, len)
 }
@@ -348,35 +320,20 @@ pub fn measure(
     ensures { MeasuresNumbers value_code format.now values.now len.old len.new (returned result) }
 {
     let value_type = ValueType::from_code(value_code).ok_or(Status::BadType)?;
-    let (format, digits) = Held::new(format)?;
-    measure_type(value_type, &format, digits, values, len)
-}
-
-/// Writes how many bytes the texts of the numbers of a type have.
-fn measure_type<F: Format>(
-    value_type: ValueType,
-    format: &F,
-    digits: Digits,
-    values: &Values,
-    len: &mut usize,
-) -> Result<i32, Status>
-    ensures { MeasuresType value_type values.now len.old len.new (returned result) (F.answers format.now) digits }
-{
-    for_type!(value_type, measure_numbers(format, digits, values, len))
+    for_type!(value_type => measure_numbers(format, values, len))
 }
 
 /// Writes how many bytes the texts of the numbers of an integer type have.
-fn measure_numbers<N: Value, F: Format>(
-    format: &F,
-    digits: Digits,
+fn measure_numbers<N: Value>(
+    format: &NumFormat,
     values: &Values,
     len: &mut usize,
 ) -> Result<i32, Status>
-    ensures { MeasuresCounted
-        (rows_in digits (row_text N.repr (text_of (F.answers format.now)) values.now.bytes.now values.now.validity))
-        (row_count N.repr values.now.bytes.now values.now.validity) len.old len.new (returned result) }
+    ensures { MeasuresValues N.repr text_of format.now values.now len.old len.new (returned result) }
 {
+    let (format, digits) = Held::new(format)?;
     let rows = Rows::<N>::new(values)?;
+    let format = &format;
     measure_in(&NumberPrinter { rows, format }, digits, len)
 }
 
@@ -436,19 +393,14 @@ trait Parser<N: Value> {
             (λ status. (old : ℤ) → Parses self.now s text.now old old (code status)) };
 }
 
-/// Parsing that ignores characters that are not numeric.
-#[derive(Drop)]
-struct Lenient<'a, F: Format> {
-    format: &'a F,
-}
-
-impl<'a, N: Value, F: Format> Parser<N> for Lenient<'a, F> {
-    ghost IsFor = { λ p. IsFormatOf (F.answers p.format.now) };
+/// By a format alone, parsing ignores characters that are not numeric.
+impl<'a, N: Value> Parser<N> for Held<'a> {
+    ghost IsFor = { λ h. IsFormatOf (format_with h.separator h.grouping h.minus_sign h.decimal_mark) };
 
     ghost Parses = { λ _. ParsesInto N.kind };
 
     fn parse(&self, text: &[u8]) -> Result<N, Status> {
-        calls::parse_under(self.format, text)
+        calls::parse_under(self, text)
     }
 }
 
@@ -499,10 +451,7 @@ impl<'a, N: Value, F: Format> Parser<N> for DigitParser<'a, TypedParser<'a, F>, 
     ghost Parses = { λ _. Row (typed_numbers N.kind) (λ z. z) };
 
     fn parse(&self, text: &[u8]) -> Result<N, Status> {
-        match in_others(text, self.digits) {
-            None => crossed(self.parser.parse_bytes(text), &mut 0),
-            Some(text) => crossed(self.digits.parse_typed(text, self.format), &mut 0),
-        }
+        calls::parse_typed(self.format, self.digits, text, &mut 0)
     }
 }
 
@@ -546,10 +495,7 @@ impl<'a, F: Format> Parser<i128> for AtScale<DigitParser<'a, TypedParser<'a, F>,
 fn units<E: Cause>(parsed: Result<Decimal, E>) -> Result<i128, Status>
     ensures { result ≡ mapped (λ d. d.units) (crossed E.status_of parsed) }
 {
-    match crossed(parsed, &mut 0) {
-        Ok(number) => Ok(number.units()),
-        Err(status) => Err(status),
-    }
+    Ok(crossed(parsed, &mut 0)?.units())
 }
 
 /// Parses the rows of a column of numbers, and returns 0.
@@ -567,148 +513,77 @@ pub fn parse(
 {
     let value_type = ValueType::from_code(value_code).ok_or(Status::BadType)?;
     let offset_type = OffsetType::from_code(offset_code).ok_or(Status::BadType)?;
+    for_type!(value_type => parse_numbers(format, mode, offset_type, texts, values, statuses))
+}
+
+/// Parses the rows of a column of numbers of an integer type.
+fn parse_numbers<N: Value>(
+    format: &NumFormat,
+    mode: u32,
+    offset_type: OffsetType,
+    texts: &Texts,
+    values: &mut [u8],
+    statuses: &mut [i32],
+) -> Result<i32, Status>
+    ensures { ParsesInMode mode N.kind N.repr offset_type format.now texts.now
+        (to_parsed values.old statuses.old) (to_parsed values.new statuses.new) (returned result) }
+{
     match mode {
-        STRICT => {
-            let (format, digits) = Held::new(format)?;
-            let Ok(parser) = StrictParser::new(&format) else {
-                return Err(Status::AmbiguousFormat);
-            };
-            if digits.is_latin() {
-                return parse_strictly(value_type, &parser, offset_type, texts, values, statuses);
-            }
-            let parser = DigitParser {
-                parser,
-                format: &format,
-                digits,
-            };
-            parse_strictly_in(value_type, &parser, offset_type, texts, values, statuses)
-        }
-        TYPED => {
-            let (format, digits) = Held::new(format)?;
-            let Ok(parser) = TypedParser::new(&format) else {
-                return Err(Status::AmbiguousFormat);
-            };
-            let in_latin = digits.is_latin();
-            if in_latin {
-                return parse_typed(value_type, &parser, offset_type, texts, values, statuses);
-            }
-            let parser = DigitParser {
-                parser,
-                format: &format,
-                digits,
-            };
-            parse_typed_in(value_type, &parser, offset_type, texts, values, statuses)
-        }
+        STRICT => parse_strictly::<N>(format, offset_type, texts, values, statuses),
+        TYPED => parse_typed::<N>(format, offset_type, texts, values, statuses),
         _ => {
             let format = Held::latin(format)?;
-            let parser = Lenient { format: &format };
-            parse_leniently(value_type, &parser, offset_type, texts, values, statuses)
+            parse_column::<N, _>(&format, offset_type, texts, values, statuses)
         }
     }
 }
 
-/// Parses the rows of a column of numbers of a type leniently.
-fn parse_leniently<'a, F: Format>(
-    value_type: ValueType,
-    parser: &Lenient<'a, F>,
+/// Parses the rows of a column of numbers strictly.
+fn parse_strictly<N: Value>(
+    format: &NumFormat,
     offset_type: OffsetType,
     texts: &Texts,
     values: &mut [u8],
     statuses: &mut [i32],
 ) -> Result<i32, Status>
-    ensures { (s : NumFormat) → IsFormatOf (F.answers parser.now.format.now) s
-        → MatchType value_type (λ v. ParsesValues (ParsesInto v.kind) v offset_type s texts.now
-        (to_parsed values.old statuses.old) (to_parsed values.new statuses.new) (returned result)) }
+    ensures { ParsesUnder IsUnambiguous (Row (numbers N.kind) (λ z. z)) N.repr offset_type format.now texts.now
+        (to_parsed values.old statuses.old) (to_parsed values.new statuses.new) (returned result) }
 {
-    for_type!(
-        value_type,
-        parse_column(parser, offset_type, texts, values, statuses)
-    )
+    let (format, digits) = Held::new(format)?;
+    let parser = StrictParser::new(&format).or(Err(Status::AmbiguousFormat))?;
+    if digits.is_latin() {
+        return parse_column::<N, _>(&parser, offset_type, texts, values, statuses);
+    }
+    let parser = DigitParser {
+        parser,
+        format: &format,
+        digits,
+    };
+    parse_column::<N, _>(&parser, offset_type, texts, values, statuses)
 }
 
-/// Parses the rows of a column of numbers of a type strictly. It is a call, so that its loop has the registers for
-/// itself.
-#[inline(never)]
-fn parse_strictly<'a, F: Format>(
-    value_type: ValueType,
-    parser: &StrictParser<'a, F>,
+/// Parses the rows of a column of numbers as people type them.
+fn parse_typed<N: Value>(
+    format: &NumFormat,
     offset_type: OffsetType,
     texts: &Texts,
     values: &mut [u8],
     statuses: &mut [i32],
 ) -> Result<i32, Status>
-    ensures { (s : NumFormat) → IsFormatIn parser.now 48 s
-        → MatchType value_type (λ v. ParsesValues (Row (numbers v.kind) (λ z. z)) v offset_type s texts.now
-        (to_parsed values.old statuses.old) (to_parsed values.new statuses.new) (returned result)) }
+    ensures { ParsesUnder IsTypable (Row (typed_numbers N.kind) (λ z. z)) N.repr offset_type format.now texts.now
+        (to_parsed values.old statuses.old) (to_parsed values.new statuses.new) (returned result) }
 {
-    for_type!(
-        value_type,
-        parse_column(parser, offset_type, texts, values, statuses)
-    )
-}
-
-/// Parses the rows of a column of numbers of a type as people type them.
-#[inline(never)]
-fn parse_typed<'a, F: Format>(
-    value_type: ValueType,
-    parser: &TypedParser<'a, F>,
-    offset_type: OffsetType,
-    texts: &Texts,
-    values: &mut [u8],
-    statuses: &mut [i32],
-) -> Result<i32, Status>
-    ensures { (s : NumFormat) → IsFormatIn parser.now 48 s
-        → MatchType value_type (λ v. ParsesValues (Row (typed_numbers v.kind) (λ z. z)) v offset_type s texts.now
-        (to_parsed values.old statuses.old) (to_parsed values.new statuses.new) (returned result)) }
-{
-    for_type!(
-        value_type,
-        parse_column(parser, offset_type, texts, values, statuses)
-    )
-}
-
-/// Parses the rows of a column of numbers of a type strictly, in other digits than `0` to `9`.
-#[cold]
-#[inline(never)]
-fn parse_strictly_in<'a, F: Format>(
-    value_type: ValueType,
-    parser: &DigitParser<'a, StrictParser<'a, F>, F>,
-    offset_type: OffsetType,
-    texts: &Texts,
-    values: &mut [u8],
-    statuses: &mut [i32],
-) -> Result<i32, Status>
-    ensures { (s : NumFormat)
-        → IsParserIn parser.now.parser (F.answers parser.now.format.now) parser.now.digits s
-        → MatchType value_type (λ v. ParsesValues (Row (numbers v.kind) (λ z. z)) v offset_type s texts.now
-        (to_parsed values.old statuses.old) (to_parsed values.new statuses.new) (returned result)) }
-{
-    for_type!(
-        value_type,
-        parse_column(parser, offset_type, texts, values, statuses)
-    )
-}
-
-/// Parses the rows of a column of numbers of a type as people type them, in other digits than `0` to `9`.
-#[cold]
-#[inline(never)]
-fn parse_typed_in<'a, F: Format>(
-    value_type: ValueType,
-    parser: &DigitParser<'a, TypedParser<'a, F>, F>,
-    offset_type: OffsetType,
-    texts: &Texts,
-    values: &mut [u8],
-    statuses: &mut [i32],
-) -> Result<i32, Status>
-    ensures { (s : NumFormat)
-        → IsParserIn parser.now.parser (F.answers parser.now.format.now) parser.now.digits s
-        → MatchType value_type (λ v. ParsesValues (Row (typed_numbers v.kind) (λ z. z)) v offset_type s texts.now
-        (to_parsed values.old statuses.old) (to_parsed values.new statuses.new) (returned result)) }
-{
-    for_type!(
-        value_type,
-        parse_column(parser, offset_type, texts, values, statuses)
-    )
+    let (format, digits) = Held::new(format)?;
+    let parser = TypedParser::new(&format).or(Err(Status::AmbiguousFormat))?;
+    if digits.is_latin() {
+        return parse_column::<N, _>(&parser, offset_type, texts, values, statuses);
+    }
+    let parser = DigitParser {
+        parser,
+        format: &format,
+        digits,
+    };
+    parse_column::<N, _>(&parser, offset_type, texts, values, statuses)
 }
 
 /// Parses a text as people type it as a number of a type, writes the bytes of the number, and returns 0.
@@ -725,43 +600,23 @@ pub fn parse_one(
         (λ v. ParsesTypedInto v v.kind format.now text.now value.old value.new at.old at.new (returned result))) }
 {
     let value_type = ValueType::from_code(value_code).ok_or(Status::BadType)?;
-    let (format, digits) = Held::new(format)?;
-    parse_one_of(value_type, &format, digits, text, value, at)
-}
-
-/// Parses a text as people type it as a number of the type that a type of values is. It is inlined, so that the format
-/// stays in registers.
-#[inline(always)]
-fn parse_one_of<F: Format>(
-    value_type: ValueType,
-    format: &F,
-    digits: Digits,
-    text: &[u8],
-    value: &mut [u8],
-    at: &mut usize,
-) -> Result<i32, Status>
-    ensures { (s : NumFormat) → IsFormatIn (F.answers format.now) digits s
-        → MatchType value_type
-        (λ v. ParsesTypedInto v v.kind s text.now value.old value.new at.old at.new (returned result)) }
-{
-    for_type!(value_type, parse_number(format, digits, text, value, at))
+    for_type!(value_type => parse_number(format, text, value, at))
 }
 
 /// Parses a text as people type it as a number of an integer type.
-fn parse_number<N: Value, F: Format>(
-    format: &F,
-    digits: Digits,
+fn parse_number<N: Value>(
+    format: &NumFormat,
     text: &[u8],
     value: &mut [u8],
     at: &mut usize,
 ) -> Result<i32, Status>
-    ensures { (s : NumFormat) → IsFormatIn (F.answers format.now) digits s
-        → ParsesTypedInto N.repr N.kind s text.now value.old value.new at.old at.new (returned result) }
+    ensures { ParsesTypedInto N.repr N.kind format.now text.now value.old value.new at.old at.new (returned result) }
 {
+    let (format, digits) = Held::new(format)?;
     if value.len() != N::size() {
         return Err(Status::BadLength);
     }
-    match calls::parse_typed::<N, F>(format, digits, text, at) {
+    match calls::parse_typed::<N, _>(&format, digits, text, at) {
         Ok(number) => {
             number.write(value);
             Ok(0)
@@ -785,9 +640,7 @@ pub fn parse_decimals(
     let scale = scale_of(scale)?;
     let offset_type = OffsetType::from_code(offset_code).ok_or(Status::BadType)?;
     let (format, digits) = Held::new(format)?;
-    let Ok(parser) = DecimalParser::new(&format) else {
-        return Err(Status::AmbiguousFormat);
-    };
+    let parser = DecimalParser::new(&format).or(Err(Status::AmbiguousFormat))?;
     let parser = DigitParser {
         parser,
         format: &format,
@@ -827,7 +680,8 @@ pub fn parse_typed_decimals(
     parse_column::<i128, _>(&parser, offset_type, texts, units, statuses)
 }
 
-/// Parses the rows of a column, and returns 0.
+/// Parses the rows of a column, and returns 0. It is a call, so that its loop has the registers for itself.
+#[inline(never)]
 fn parse_column<N: Value, P: Parser<N>>(
     parser: &P,
     offset_type: OffsetType,

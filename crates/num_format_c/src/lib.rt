@@ -437,12 +437,8 @@ pub extern "C" fn num_format_parse_typed_decimal(
     ensures { Into typed_decimals (λ d. d) format.now text.now
         (decimal_of low.old high.old scale.old) (decimal_of low.new high.new scale.new) at.old at.new result }
 {
-    stored_decimal(
-        calls::parse_typed_decimal(format, text, at),
-        low,
-        high,
-        scale,
-    )
+    let parsed = calls::parse_typed_decimal(format, text, at);
+    stored_decimal(parsed, low, high, scale)
 }
 
 /// Adds a decimal to the one whose units have the halves `low` and `high`, writes the sum in its place, and returns 0.

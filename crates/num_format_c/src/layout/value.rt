@@ -83,11 +83,7 @@ pub fn row_count<N: Value>(values: &[u8], validity: &Validity) -> Option<usize>
 {
     let size = N::size();
     let n = values.len() / size;
-    if values.len() % size == 0 && validity.covers(n) {
-        Some(n)
-    } else {
-        None
-    }
+    (values.len() % size == 0 && validity.covers(n)).then_some(n)
 }
 
 /// Returns the value of a row.

@@ -5,7 +5,9 @@ use Rattle.num_format_c.proofs.ParsingLemmas.{onward}
 use Rattle.num_format_c.proofs.columns.parse_number.Goals as goal
 
 pub returns-in-Ok : goal.returns-in-Ok
-returns-in-Ok g c = λ s given.
+returns-in-Ok g c =
+    let s = c.args.format.now in
+    let given = c.in_ok-format.ensures in
     let size : length c.args.value.now ≡ g.N.Value.repr.size = search (rules, c.size.ensures.size) in
     record {
       bad_format = λ none. absurd (none given.0);
@@ -15,8 +17,10 @@ returns-in-Ok g c = λ s given.
           (c.in-Ok.ensures s given) (refl, c.write.ensures);
     }
 
-pub returns-in-Err : goal.returns-in-Err
-returns-in-Err g c = λ s given.
+pub returns : goal.returns
+returns g c =
+    let s = c.args.format.now in
+    let given = c.in_ok-format.ensures in
     let size : length c.args.value.now ≡ g.N.Value.repr.size = search (rules, c.size.ensures.size) in
     record {
       bad_format = λ none. absurd (none given.0);

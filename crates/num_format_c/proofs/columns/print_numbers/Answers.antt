@@ -1,4 +1,7 @@
+use Rattle.num_format_c.proofs.DigitLemmas.{under_format}
 use Rattle.num_format_c.proofs.columns.print_numbers.Goals as goal
 
 pub returns : goal.returns
-returns g c = rw (c.in_ok-rows.ensures.1, ← c.in_ok-rows.ensures.0) c.print_in.ensures
+returns g c =
+    let rows = c.in_ok-rows.ensures in
+    under_format c.args.format.now _ _ _ _ _ _ c.in_ok-format.ensures (rw (rows.1, ← rows.0) c.print_in.ensures)

@@ -1,23 +1,8 @@
 use Rattle.num_format_c.specs.Calls.{typed_numbers}
-use Rattle.num_format_c.proofs.ParsingLemmas.{gets_in, gets_latin, row, typed_in_mapped, typed_number_mapped}
+use Rattle.num_format_c.proofs.ParsingLemmas.{row}
 use Rattle.num_format_c.proofs.columns.DigitParserTypedParserParser.parse.Goals as goal
 
-pub returns-in-None : goal.returns-in-None
-returns-in-None g c = λ s given.
-    let k = g.N.Sealed.kind in
-    let value = g.N.Sealed.value in
-    row (typed_numbers k) s c.args.text.now value (λ z. z) c.crossed.new.at c.crossed.result
-    (gets_latin (typed_numbers k) s c.args.text.now value 0 c.crossed.new.at _ _ given.0 c.in-None.ensures c.parse_bytes.result
-    (typed_number_mapped k value _ c.args.text.now c.parse_bytes.result c.parse_bytes.ensures) c.crossed.result c.crossed.ensures.result
-    c.crossed.ensures.place)
-
-pub returns-in-Some : goal.returns-in-Some
-returns-in-Some g c = λ s given.
-    let k = g.N.Sealed.kind in
-    let value = g.N.Sealed.value in
+pub returns : goal.returns
+returns g c = λ s given.
     let call = c.parse_typed in
-    let crossed = c.crossed-in-Some in
-    row (typed_numbers k) s c.args.text.now value (λ z. z) crossed.new.at crossed.result
-    (gets_in (typed_numbers k) s c.args.text.now value 0 crossed.new.at _ _ given.1 c.in-Some.ensures.0 c.in-Some.ensures.1 call.result
-    (typed_in_mapped k value _ _ c.args.text.now call.result (rw c.in-Some.ensures.2 at call.ensures)) crossed.result crossed.ensures.result
-    crossed.ensures.place)
+    row (typed_numbers g.N.Sealed.kind) s c.args.text.now g.N.Sealed.value (λ z. z) call.new.at call.result (call.ensures s given.1)
