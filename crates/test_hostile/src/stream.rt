@@ -7,8 +7,8 @@ use crate::rules::RULES;
 use crate::{ReadStep, Scripted, ScriptedReader, Step};
 use num_format::{CustomFormat, Locale};
 use regroup_stream::{
-    CLOSED, FAILED, FAULTY, Fields, Formats, Invalid, MISUSED, Misuse, NamedFormat, Open, REGROUPED, Rules,
-    Span, Unread, refuse, run, run_all,
+    CLOSED, FAILED, FAULTY, Fields, Formats, Invalid, MISUSED, Misuse, NamedFormat, Open,
+    REGROUPED, Rules, Span, Unread, refuse, run, run_all,
 };
 use std::alloc::Global;
 use std::cell::Cell;
