@@ -36,6 +36,10 @@ TOLERANCE = 10
 AT_MOST = [
     ("print i64 INT64_MIN, fa, digits arabext", 2, "print i64 INT64_MIN, fa"),
     ("parse strictly i64 INT64_MIN, fa, digits arabext", 1.8, "parse strictly i64 INT64_MIN, fa"),
+    ("parse decimal -1,234.50, fa, digits arabext", 1.8, "parse decimal -1,234.50, fa"),
+    ("parse typed i64 INT64_MIN, fa, digits arabext", 1.8, "parse typed i64 INT64_MIN, fa"),
+    ("parse typed i64 +1,234, fa, digits arabext", 1.8, "parse typed i64 +1,234, fa"),
+    ("parse typed decimal -1,234.50, fa, digits arabext", 1.8, "parse typed decimal -1,234.50, fa"),
     ("parse typed i64 INT64_MIN", 1.2, "parse strictly i64 INT64_MIN"),
     ("parse typed i64 +1,234 after a space", 3, "parse strictly i64 1,234"),
     ("parse typed i64 -1 234, fr", 3.5, "parse strictly i64 -1 234, fr"),
