@@ -53,6 +53,8 @@ void *memset(void *to, int byte, size_t length) {
 #define MINUS "\u200e\u2212"
 #define PERSIAN TEXT(MINUS "9\u066c" "223\u066c" "372\u066c" "036\u066c" "854\u066c" "775\u066c" "808")
 #define ARABEXT TEXT(MINUS "۹\u066c" "۲۲۳\u066c" "۳۷۲\u066c" "۰۳۶\u066c" "۸۵۴\u066c" "۷۷۵\u066c" "۸۰۸")
+#define PERSIAN_DECIMAL TEXT(MINUS "1\u066c" "234\u066b" "50")
+#define ARABEXT_DECIMAL TEXT(MINUS "۱\u066c" "۲۳۴\u066b" "۵۰")
 
 static num_format en, fr, fa, arabext, built, filled;
 static char text[NUM_FORMAT_DECIMAL_MAX];
@@ -93,12 +95,20 @@ static int strict_arabext(void) { return num_format_parse_strict_i64(&arabext, 6
 static int decimal(void) { return num_format_parse_decimal(&en, TEXT("1,234.50"), &low, &high, &scale, &at); }
 static int decimal_french(void) { return num_format_parse_decimal(&fr, TEXT(FRENCH ",50"), &low, &high, &scale, &at); }
 static int typed_short(void) { return num_format_parse_typed(&en, NUM_FORMAT_I64, TEXT("-234"), &number, sizeof number, &at); }
+static int decimal_persian(void) { return num_format_parse_decimal(&fa, PERSIAN_DECIMAL, &low, &high, &scale, &at); }
+static int decimal_arabext(void) { return num_format_parse_decimal(&arabext, ARABEXT_DECIMAL, &low, &high, &scale, &at); }
 static int typed_long(void) { return num_format_parse_typed(&en, NUM_FORMAT_I64, LONG, &number, sizeof number, &at); }
 static int typed_plus(void) { return num_format_parse_typed(&en, NUM_FORMAT_I64, TEXT(" +1,234"), &number, sizeof number, &at); }
 static int typed_french(void) { return num_format_parse_typed(&fr, NUM_FORMAT_I64, TEXT("-1 234"), &number, sizeof number, &at); }
+static int typed_persian(void) { return num_format_parse_typed(&fa, NUM_FORMAT_I64, PERSIAN, &number, sizeof number, &at); }
+static int typed_arabext(void) { return num_format_parse_typed(&arabext, NUM_FORMAT_I64, ARABEXT, &number, sizeof number, &at); }
+static int typed_persian_plus(void) { return num_format_parse_typed(&fa, NUM_FORMAT_I64, TEXT("+1\u066c" "234"), &number, sizeof number, &at); }
+static int typed_arabext_plus(void) { return num_format_parse_typed(&arabext, NUM_FORMAT_I64, TEXT("+۱\u066c" "۲۳۴"), &number, sizeof number, &at); }
 static int typed_decimal(void) { return num_format_parse_typed_decimal(&en, TEXT("1,234.50"), &low, &high, &scale, &at); }
 static int typed_decimal_plus(void) { return num_format_parse_typed_decimal(&en, TEXT(" +1,234.50"), &low, &high, &scale, &at); }
 static int typed_decimal_french(void) { return num_format_parse_typed_decimal(&fr, TEXT("-1 234,50"), &low, &high, &scale, &at); }
+static int typed_decimal_persian(void) { return num_format_parse_typed_decimal(&fa, PERSIAN_DECIMAL, &low, &high, &scale, &at); }
+static int typed_decimal_arabext(void) { return num_format_parse_typed_decimal(&arabext, ARABEXT_DECIMAL, &low, &high, &scale, &at); }
 static int typed_column(void) {
     return num_format_parse_column(&en, NUM_FORMAT_I64, NUM_FORMAT_TYPED, TEXTS, parsed, sizeof parsed, NO_NULLS, statuses, ROWS);
 }
@@ -140,6 +150,8 @@ static const struct {
     {"parse strictly i64 INT64_MIN, fa, digits arabext", strict_arabext, 0},
     {"parse decimal 1,234.50", decimal, 0},
     {"parse decimal -1 234,50, fr", decimal_french, 0},
+    {"parse decimal -1,234.50, fa", decimal_persian, 0},
+    {"parse decimal -1,234.50, fa, digits arabext", decimal_arabext, 0},
     {"print a column, i64, 4 rows", print_column, 0},
     {"measure a column, i64, 4 rows", measure_column, 0},
     {"parse a column strictly, i64, 4 rows", parse_column, 0},
@@ -147,9 +159,15 @@ static const struct {
     {"parse typed i64 INT64_MIN", typed_long, 0},
     {"parse typed i64 +1,234 after a space", typed_plus, 0},
     {"parse typed i64 -1 234, fr", typed_french, 0},
+    {"parse typed i64 INT64_MIN, fa", typed_persian, 0},
+    {"parse typed i64 INT64_MIN, fa, digits arabext", typed_arabext, 0},
+    {"parse typed i64 +1,234, fa", typed_persian_plus, 0},
+    {"parse typed i64 +1,234, fa, digits arabext", typed_arabext_plus, 0},
     {"parse typed decimal 1,234.50", typed_decimal, 0},
     {"parse typed decimal +1,234.50 after a space", typed_decimal_plus, 0},
     {"parse typed decimal -1 234,50, fr", typed_decimal_french, 0},
+    {"parse typed decimal -1,234.50, fa", typed_decimal_persian, 0},
+    {"parse typed decimal -1,234.50, fa, digits arabext", typed_decimal_arabext, 0},
     {"parse a column as typed, i64, 4 rows", typed_column, 0},
     {"fill with the locale de-AT", locale, 0},
     {"fill with a custom format", custom, 0},

@@ -71,7 +71,8 @@ pub record UnderFormat {A : Type 0} (s : NumFormat) (Does : FormatData → (zero
   pub format : HasFormat s → Does (format_of s) (digits_of s)
 
 -- the values of a column are printed under the format of a struct, in its digits
-abbrev pub PrintsValues : Representation → (FormatData → ℤ → List ℕ) → OffsetType → NumFormat → Values → (old new : Printed) → (result : ℤ) → Type 0
+abbrev pub PrintsValues : Representation → (FormatData → ℤ → List ℕ) → OffsetType → NumFormat → Values → (old new : Printed) → (result : ℤ)
+    → Type 0
 PrintsValues v text t s values old new result = UnderFormat s (λ f z.
     PrintsCounted (rows_in z (row_text v (text f) values.bytes.now values.validity)) (row_count v values.bytes.now values.validity) t
     old new result) old new result
@@ -166,8 +167,8 @@ ParsesValues Parses v t s c old new result =
     MatchOption (row_count v old.values c.validity) (Fails BadLength old new result) (ParsesRows Parses v t s c old new result)
 
 -- the texts of a column are parsed under the format of a struct, if it is one by which no text can be misread
-pub record ParsesUnder (IsClear : FormatData → Type 0) (Parses : RowParser) (v : Representation) (t : OffsetType) (s : NumFormat) (c : Texts)
-    (old new : Parsed) (result : ℤ) : Type 0 where
+pub record ParsesUnder (IsClear : FormatData → Type 0) (Parses : RowParser) (v : Representation) (t : OffsetType) (s : NumFormat)
+    (c : Texts) (old new : Parsed) (result : ℤ) : Type 0 where
   pub bad_format : ¬ HasFormat s → Fails BadFormat old new result
   pub ambiguous : HasFormat s → ¬ IsClear (format_of s) → Fails AmbiguousFormat old new result
   pub parsed : HasFormat s → IsClear (format_of s) → ParsesValues Parses v t s c old new result

@@ -342,6 +342,25 @@ pub fn parse_typed<N: FromFormattedStr, F: Format>(
     ensures { (s : NumFormat) → IsFormatIn (F.answers format.now) digits s
         → Gets (typed_numbers N.kind) N.value s text.now at.old at.new result }
 {
+    if !digits.is_latin() {
+        if let Some(number) = digits.parse_shown_typed::<N, F>(text, format) {
+            return Ok(number);
+        }
+    }
+    parse_typed_any(format, digits, text, at)
+}
+
+/// Does the same for a text in `0` to `9`, or with other symbols than those of locales.
+#[inline(always)]
+fn parse_typed_any<N: FromFormattedStr, F: Format>(
+    format: &F,
+    digits: Digits,
+    text: &[u8],
+    at: &mut usize,
+) -> Result<N, Status>
+    ensures { (s : NumFormat) → IsFormatIn (F.answers format.now) digits s
+        → Gets (typed_numbers N.kind) N.value s text.now at.old at.new result }
+{
     match in_others(text, digits) {
         None => crossed(parse_typed_bytes::<N, F>(text, format), at),
         Some(text) => crossed(digits.parse_typed::<N, F>(text, format), at),

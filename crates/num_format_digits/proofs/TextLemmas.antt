@@ -15,7 +15,8 @@ use Rattle.num_format_parsing.specs.Reading.{is_other_numeral}
 use Rattle.num_format_parsing.specs.Shapes.{HasPlainSymbols}
 use Rattle.num_format_parsing.specs.Strict.{SpellsNumber}
 use Rattle.num_format_parsing.proofs.SpellingLemmas.{no_other-spelled}
-use Rattle.num_format_digits.specs.Digits.{HasNoOthers, HasOneSet, IsZero, ascii_of, in_digits, is_other, other_from, plain_char, shown, shown_byte}
+use Rattle.num_format_digits.specs.Digits.{HasNoOthers, HasOneSet, IsZero, ascii_of, in_digits, is_other, other_from, plain_char, shown}
+use Rattle.num_format_digits.specs.Digits.{shown_byte}
 use Rattle.num_format_digits.proofs.SetLemmas.{digit-scalar, plain-shown, shown-own, shown-plain}
 
 -- bytes of which none is ASCII stay

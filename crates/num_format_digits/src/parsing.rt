@@ -85,8 +85,8 @@ impl Digits {
         parser.number(&array[..len])
     }
 
-    /// Does the same for a number that a person types. All characters of the text but the digits of the set are ASCII or
-    /// symbols of locales.
+    /// Does the same for a number that a person types, if all other characters of the text are ASCII or symbols of
+    /// locales.
     #[inline(never)]
     pub fn parse_shown_typed<N: FromFormattedStr, F: Format>(
         self,

@@ -1,24 +1,17 @@
+use Rattle.std.proofs.Common.{◌≡◌, Ok, arith, refl}
+use Rattle.std.proofs.lemmas.Bool.Decides.{nat_tests}
 use Rattle.num_format_c.specs.Calls.{typed_numbers}
-use Rattle.num_format_c.proofs.ParsingLemmas.{gets_in, gets_latin, typed_in_mapped, typed_number_mapped}
+use Rattle.num_format_c.proofs.ParsingLemmas.{gets_in, typed_in_mapped}
 use Rattle.num_format_c.proofs.calls.parse_typed.Goals as goal
-
-pub returns-in-None : goal.returns-in-None
-returns-in-None g c = λ s given.
-    let k = g.N.Sealed.kind in
-    let value = g.N.Sealed.value in
-    gets_latin (typed_numbers k) s c.args.text.now value c.args.at.now c.crossed.new.at _ _ given c.in-None.ensures
-    c.parse_typed_bytes.result
-    (typed_number_mapped k value _ c.args.text.now c.parse_typed_bytes.result c.parse_typed_bytes.ensures) c.crossed.result
-    c.crossed.ensures.result c.crossed.ensures.place
 
 pub returns-in-Some : goal.returns-in-Some
 returns-in-Some g c = λ s given.
     let k = g.N.Sealed.kind in
     let value = g.N.Sealed.value in
-    let call = c.parse_typed in
-    let crossed = c.crossed-in-Some in
-    gets_in (typed_numbers k) s c.args.text.now value c.args.at.now crossed.new.at _ _ given c.in-Some.ensures.0
-    c.in-Some.ensures.1 call.result
-    (typed_in_mapped k value _ _ c.args.text.now call.result
-    (rw c.in-Some.ensures.2 at call.ensures))
-    crossed.result crossed.ensures.result crossed.ensures.place
+    let a = c.args in
+    let shown = c.in-Some.ensures in
+    let test = c.if-not-is_latin.true in
+    let told = c.is_latin.ensures in
+    let other : a.digits ≡ 48 → ⊥ = λ same. grind (arith, nat_tests, test, told, same) in
+    gets_in (typed_numbers k) s a.text.now value a.at.now a.at.now _ _ given other shown.0 (Ok c.in-Some.number)
+    (typed_in_mapped k value _ _ a.text.now (Ok c.in-Some.number) shown.1) (Ok c.in-Some.number) refl refl
