@@ -257,7 +257,7 @@ impl<'a, F: Format> DecimalParser<'a, F> {
 
     /// Returns whether a text has a byte that no whole number has in its place.
     #[cold]
-    #[inline(always)]
+    #[inline(never)]
     fn has_unexpected(&self, text: &[u8]) -> bool
         ensures { IsTrue result → (d : FixedPoint) → d.scale ≡ 0 → ¬ (SpellsDecimal self.now text.now d) }
     {
