@@ -14,7 +14,7 @@ ghost use Rattle.num_format_digits.specs.Parsing.{place_in, placed_at_scale};
 use crate::digits::Digits;
 use crate::plain::is_plain;
 use num_format_decimal::{
-    Decimal, DecimalParser, MAX_DECIMAL_LEN, ParseAtScaleError, ParseDecimalError, marks_decimals,
+    Decimal, DecimalParser, MAX_DECIMAL_LEN, ParseAtScaleError, ParseDecimalError,
 };
 use num_format_parsing::{FromFormattedStr, StrictError, StrictParser};
 use num_format_text::Format;
@@ -289,7 +289,7 @@ impl Digits {
         let Ok(parser) = TypedParser::new(format) else {
             return Err(ambiguous);
         };
-        if !marks_decimals(format) {
+        if !parser.marks_decimals() {
             return Err(ambiguous);
         }
         self.typed_decimal(&parser, text)
@@ -335,7 +335,7 @@ impl Digits {
         let Ok(parser) = TypedParser::new(format) else {
             return Err(ambiguous);
         };
-        if !marks_decimals(format) {
+        if !parser.marks_decimals() {
             return Err(ambiguous);
         }
         self.typed_at_scale(&parser, text, scale)

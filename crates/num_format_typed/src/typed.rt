@@ -701,6 +701,15 @@ impl<'a, F: Format> TypedParser<'a, F> {
         }
     }
 
+    /// Returns whether decimals can be parsed: what [`marks_decimals`](num_format_decimal::marks_decimals) returns of the
+    /// format.
+    #[inline]
+    pub fn marks_decimals(&self) -> bool
+        ensures { IsTrue result ↔ MarksDecimals self.now }
+    {
+        self.decimals.is_some()
+    }
+
     /// Returns the strict parser of decimals, if the format marks decimals.
     #[inline(always)]
     fn decimals(&self) -> Option<&DecimalParser<'a, F>>
