@@ -1,14 +1,14 @@
 -- What parsing returns, as it crosses to C.
 use Rattle.std.proofs.Common.{◌≡◌, ◌⊎◌, inl, inr, refl, IsUtf8, ℕ, ℤ, pos, List, ap, sym, ◌∙◌, subst, Option, Some, None, Result, Ok, Err}
 use Rattle.std.proofs.Common.{MatchOption}
-use Rattle.std.specs.Prelude.{MatchResult}
+use Rattle.std.specs.Prelude.{IfSome, MatchResult}
 use Rattle.num_format.specs.Format.{FormatData}
 use Rattle.num_format.specs.Kind.{Kind}
 use Rattle.num_format.specs.Strict.{IsUnambiguous, ParsesStrictly}
 use Rattle.num_format.specs.StrictError.{StrictError}
 use Rattle.num_format.specs.StrictError.TheVariants as cause
 use Rattle.num_format_decimal.specs.FixedPoint.{FixedPoint}
-use Rattle.num_format_digits.specs.Digits.{ascii_of}
+use Rattle.num_format_digits.specs.Digits.{HasOneSet, ascii_of}
 use Rattle.num_format_digits.specs.Parsing.{InDigits, ParsesInDigits, TypedInDigits, placed_typed}
 use Rattle.num_format_digits.specs.declared.parsing.DigitsError.{DigitsError}
 use Rattle.num_format_digits.specs.declared.parsing.DigitsError.TheVariants as digits
@@ -17,7 +17,7 @@ use Rattle.num_format_typed.specs.Typed.{IsTypable, ParsesTyped, TypedResult, ma
 use Rattle.num_format_typed.specs.declared.typed.TypedError.{TypedError}
 use Rattle.num_format_c.specs.Calls.{Crosses, Fails, Gets, Into, Parsing, Stores, code, crossed, digits_place_of, digits_status_of, mapped}
 use Rattle.num_format_c.specs.Calls.{place_after}
-use Rattle.num_format_c.specs.Columns.{Row}
+use Rattle.num_format_c.specs.Columns.{IsShown, Row}
 use Rattle.num_format_c.specs.Held.{HasFormat, IsFormatIn, IsFormatOf, digits_of, format_of}
 use Rattle.num_format_c.proofs.DigitLemmas.{has_format, latin_digits}
 use Rattle.num_format_c.specs.declared.format.NumFormat.{NumFormat}
@@ -215,6 +215,12 @@ module _ {E : Type 0} (p : Parsing FixedPoint E) (s : NumFormat) (text : List �
       let at = place_after (digits_place_of p.place) q 0 in
       let y = crossed (digits_status_of p.status) q in
       units_row at y (gets_in_same p s text 0 at f z given other utf8 q read y refl refl)
+
+-- what holds of the text with 0 to 9 that was taken holds of the one that the set's digits show
+pub is_shown : {X : Type 0} (z : ℕ) (t ascii : List ℕ) (Holds : List ℕ → X → Type 0) (r : Option X) → ¬ (z ≡ 48) → IsUtf8 t
+    → HasOneSet z t → ascii ≡ ascii_of z t → IfSome r (λ x. Holds ascii x) → IfSome r (λ x. IsShown z t (λ y. Holds y x))
+is_shown z t ascii holds None other utf8 set same h = h
+is_shown z t ascii holds (Some x) other utf8 set same h = (other, utf8, set, subst (λ y. holds y x) same h)
 
 -- the same where there may be no such kind
 pub into_any : {A E : Type 0} (p : Kind → Parsing ℤ E) (s : NumFormat) (text : List ℕ) (value : A → ℤ) (old new : ℤ) (at_old at_new : ℕ)

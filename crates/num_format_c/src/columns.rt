@@ -1,7 +1,7 @@
 //! What the calls for columns do, with Rust's types.
 ghost use Rattle.std.specs.Prelude.{◌≡◌, ◌≢◌, ℕ, ℤ, ◌+◌, ◌*◌, ◌<◌, ◌≤◌, min, length, pos, IsTrue, MatchOption};
-ghost use Rattle.std.specs.Prelude.{MatchResult};
-ghost use Rattle.num_format.specs.Strict.{IsUnambiguous};
+ghost use Rattle.std.specs.Prelude.{IfSome, MatchResult, Ok};
+ghost use Rattle.num_format.specs.Strict.{IsUnambiguous, ParsesStrictly};
 ghost use Rattle.num_format.specs.Text.{text_of};
 ghost use Rattle.num_format_decimal.specs.FixedPoint.{fixed_point};
 ghost use Rattle.num_format_decimal.specs.declared.buffer.TheConstants.{MAX_DECIMAL_LEN};
@@ -10,7 +10,7 @@ ghost use Rattle.num_format_digits.specs.Digits.{in_digits};
 ghost use Rattle.num_format_digits.specs.declared.printing.TheConstants.{MAX_DIGIT_TEXT_LEN};
 ghost use Rattle.num_format_c.specs.Calls.{Fails, ParsesInto, at_scale, code, crossed, mapped, numbers, returned};
 ghost use Rattle.num_format_c.specs.Calls.{typed_at_scale, typed_numbers};
-ghost use Rattle.num_format_c.specs.Columns.{AreParsed, HasLengths, HasOffsets, Measures, MeasuresDecimals};
+ghost use Rattle.num_format_c.specs.Columns.{AreParsed, HasLengths, HasOffsets, IsShown, Measures, MeasuresDecimals};
 ghost use Rattle.num_format_c.specs.Columns.{MeasuresNumbers, MeasuresValues, ParsesDecimals, ParsesInMode};
 ghost use Rattle.num_format_c.specs.Columns.{ParsesNumbers, ParsesRow, ParsesTypedInto, ParsesUnder, ParsesValues};
 ghost use Rattle.num_format_c.specs.Columns.{PrintsDecimals, PrintsNumbers, PrintsRows, PrintsValues, Row, RowParser};
@@ -21,7 +21,8 @@ ghost use Rattle.num_format_c.specs.Layout.{IsEnough, MatchType, number_at, row_
 ghost use Rattle.num_format_c.specs.Layout.{value_type_of};
 ghost use Rattle.num_format_c.specs.declared.status.Status.TheVariants.{BadType};
 ghost use Rattle.num_format_decimal.specs.Marks.{MarksDecimals};
-ghost use Rattle.num_format_typed.specs.Typed.{IsTypable};
+ghost use Rattle.num_format_decimal.specs.Parsing.{AtScaleResult};
+ghost use Rattle.num_format_typed.specs.Typed.{IsTypable, ParsesTyped, TypedAtScaleResult};
 
 use crate::calls::{self, in_others};
 use crate::format::{Held, NumFormat};
@@ -424,6 +425,76 @@ impl<'a, N: Value, F: Format> Parser<N> for TypedParser<'a, F> {
     }
 }
 
+/// Parsing of texts in `0` to `9`, without causes.
+trait AsciiParser<T> {
+    ghost use Rattle.std.specs.Prelude.{List, ℕ};
+
+    ghost Spells: { Self → List ℕ → T → Type 0 };
+
+    /// Returns the number that a text spells, or `None` if it is refused.
+    fn read(&self, ascii: &[u8]) -> Option<T>
+        ensures { IfSome result (λ x. Spells self.now ascii.now x) };
+}
+
+impl<'a, N: Value, F: Format> AsciiParser<N> for StrictParser<'a, F> {
+    ghost Spells = { λ p t n. ParsesStrictly N.kind N.value p t (Ok n) };
+
+    fn read(&self, ascii: &[u8]) -> Option<N> {
+        self.number(ascii)
+    }
+}
+
+impl<'a, N: Value, F: Format> AsciiParser<N> for TypedParser<'a, F> {
+    ghost Spells = { λ p t n. ParsesTyped N.kind N.value p t (Ok n) };
+
+    fn read(&self, ascii: &[u8]) -> Option<N> {
+        match self.parse_bytes(ascii) {
+            Ok(number) => Some(number),
+            Err(_) => None,
+        }
+    }
+}
+
+impl<'a, F: Format> AsciiParser<Decimal> for AtScale<DigitParser<'a, DecimalParser<'a, F>, F>> {
+    ghost Spells = { λ p t d. AtScaleResult p.parser.parser t p.scale (Ok d) };
+
+    fn read(&self, ascii: &[u8]) -> Option<Decimal> {
+        let parser = &self.parser.parser;
+        parser.parse_bytes_at_scale(ascii, self.scale).ok()
+    }
+}
+
+impl<'a, F: Format> AsciiParser<Decimal> for AtScale<DigitParser<'a, TypedParser<'a, F>, F>> {
+    ghost Spells = { λ p t d. TypedAtScaleResult p.parser.parser t p.scale (Ok d) };
+
+    fn read(&self, ascii: &[u8]) -> Option<Decimal> {
+        let parser = &self.parser.parser;
+        parser.parse_bytes_at_scale(ascii, self.scale).ok()
+    }
+}
+
+/// Returns the number of a text in other digits than `0` to `9`, or `None` where only parsing in the set can tell.
+#[inline(always)]
+fn shown<T, P: AsciiParser<T>>(parser: &P, digits: Digits, text: &[u8]) -> Option<T>
+    ensures { IfSome result (λ x. IsShown digits text.now (λ t. P.Spells parser.now t x)) }
+{
+    if digits.is_latin() {
+        return None;
+    }
+    shown_in(parser, digits, text)
+}
+
+/// Does the same in other digits. It is a call, so that parsing in `0` to `9` clears no array.
+#[inline(never)]
+fn shown_in<T, P: AsciiParser<T>>(parser: &P, digits: Digits, text: &[u8]) -> Option<T>
+    requires { ¬ (digits ≡ 48) }
+    ensures { IfSome result (λ x. IsShown digits text.now (λ t. P.Spells parser.now t x)) }
+{
+    let mut array = [0; MAX_DECIMAL_LEN];
+    let len = digits.take_plain(text, &mut array)?;
+    parser.read(&array[..len])
+}
+
 /// A parser of texts in `0` to `9`, and its format and a digit set, by which texts in other digits are parsed.
 #[derive(Drop)]
 struct DigitParser<'a, P, F: Format> {
@@ -438,6 +509,9 @@ impl<'a, N: Value, F: Format> Parser<N> for DigitParser<'a, StrictParser<'a, F>,
     ghost Parses = { λ _. Row (numbers N.kind) (λ z. z) };
 
     fn parse(&self, text: &[u8]) -> Result<N, Status> {
+        if let Some(number) = shown(&self.parser, self.digits, text) {
+            return Ok(number);
+        }
         match in_others(text, self.digits) {
             None => crossed(self.parser.parse_bytes(text), &mut 0),
             Some(text) => crossed(self.digits.parse_strict(text, self.format), &mut 0),
@@ -451,7 +525,10 @@ impl<'a, N: Value, F: Format> Parser<N> for DigitParser<'a, TypedParser<'a, F>, 
     ghost Parses = { λ _. Row (typed_numbers N.kind) (λ z. z) };
 
     fn parse(&self, text: &[u8]) -> Result<N, Status> {
-        calls::parse_typed(self.format, self.digits, text, &mut 0)
+        if let Some(number) = shown(&self.parser, self.digits, text) {
+            return Ok(number);
+        }
+        calls::parse_typed_any(self.format, self.digits, text, &mut 0)
     }
 }
 
@@ -469,6 +546,9 @@ impl<'a, F: Format> Parser<i128> for AtScale<DigitParser<'a, DecimalParser<'a, F
 
     fn parse(&self, text: &[u8]) -> Result<i128, Status> {
         let by = &self.parser;
+        if let Some(decimal) = shown(self, by.digits, text) {
+            return Ok(decimal.units());
+        }
         match in_others(text, by.digits) {
             None => units(by.parser.parse_bytes_at_scale(text, self.scale)),
             Some(text) => units(by.digits.parse_at_scale(text, self.scale, by.format)),
@@ -483,6 +563,9 @@ impl<'a, F: Format> Parser<i128> for AtScale<DigitParser<'a, TypedParser<'a, F>,
 
     fn parse(&self, text: &[u8]) -> Result<i128, Status> {
         let by = &self.parser;
+        if let Some(decimal) = shown(self, by.digits, text) {
+            return Ok(decimal.units());
+        }
         match in_others(text, by.digits) {
             None => units(by.parser.parse_bytes_at_scale(text, self.scale)),
             Some(text) => units(by.digits.parse_typed_at_scale(text, self.scale, by.format)),

@@ -1,6 +1,16 @@
+use Rattle.std.proofs.Common.{Ok, refl}
 use Rattle.num_format_c.specs.Calls.{numbers}
 use Rattle.num_format_c.proofs.ParsingLemmas.{gets_in, gets_latin, row, strict_in_mapped, strict_mapped}
 use Rattle.num_format_c.proofs.columns.DigitParserStrictParserParser.parse.Goals as goal
+
+pub returns-in-Some : goal.returns-in-Some
+returns-in-Some g c = λ s given.
+    let k = g.N.Sealed.kind in
+    let value = g.N.Sealed.value in
+    let shown = c.in-Some.ensures in
+    row (numbers k) s c.args.text.now value (λ z. z) 0 (Ok c.in-Some.number)
+    (gets_in (numbers k) s c.args.text.now value 0 0 _ _ given.0 shown.0 shown.1 (Ok c.in-Some.number)
+    (strict_in_mapped k value _ _ c.args.text.now (Ok c.in-Some.number) (shown.2, shown.3)) (Ok c.in-Some.number) refl refl)
 
 pub returns-in-None : goal.returns-in-None
 returns-in-None g c = λ s given.
@@ -11,13 +21,14 @@ returns-in-None g c = λ s given.
     (strict_mapped k value _ c.args.text.now c.parse_bytes.result c.parse_bytes.ensures) c.crossed.result c.crossed.ensures.result
     c.crossed.ensures.place)
 
-pub returns-in-Some : goal.returns-in-Some
-returns-in-Some g c = λ s given.
+pub returns-in-Some-in_others : goal.returns-in-Some-in_others
+returns-in-Some-in_others g c = λ s given.
     let k = g.N.Sealed.kind in
     let value = g.N.Sealed.value in
+    let other = c.in-Some-in_others.ensures in
     let call = c.parse_strict in
-    let crossed = c.crossed-in-Some in
+    let crossed = c.crossed-in-Some-in_others in
     row (numbers k) s c.args.text.now value (λ z. z) crossed.new.at crossed.result
-    (gets_in (numbers k) s c.args.text.now value 0 crossed.new.at _ _ given.1 c.in-Some.ensures.0 c.in-Some.ensures.1 call.result
-    (strict_in_mapped k value _ _ c.args.text.now call.result (rw c.in-Some.ensures.2 at call.ensures)) crossed.result crossed.ensures.result
+    (gets_in (numbers k) s c.args.text.now value 0 crossed.new.at _ _ given.1 other.0 other.1 call.result
+    (strict_in_mapped k value _ _ c.args.text.now call.result (rw other.2 at call.ensures)) crossed.result crossed.ensures.result
     crossed.ensures.place)
