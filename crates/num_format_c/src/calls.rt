@@ -352,7 +352,7 @@ pub fn parse_typed<N: FromFormattedStr, F: Format>(
 
 /// Does the same for a text in `0` to `9`, or with other symbols than those of locales.
 #[inline(always)]
-pub fn parse_typed_any<N: FromFormattedStr, F: Format>(
+fn parse_typed_any<N: FromFormattedStr, F: Format>(
     format: &F,
     digits: Digits,
     text: &[u8],

@@ -528,7 +528,10 @@ impl<'a, N: Value, F: Format> Parser<N> for DigitParser<'a, TypedParser<'a, F>, 
         if let Some(number) = shown(&self.parser, self.digits, text) {
             return Ok(number);
         }
-        calls::parse_typed_any(self.format, self.digits, text, &mut 0)
+        match in_others(text, self.digits) {
+            None => crossed(self.parser.parse_bytes(text), &mut 0),
+            Some(text) => crossed(self.digits.parse_typed(text, self.format), &mut 0),
+        }
     }
 }
 

@@ -16,4 +16,5 @@ returns g c = λ inside d whole spells.
     ap (λ k. unread (printed_separator f.grouping f.separator) 0 (drop k t)) (sym sign.long)
     ∙ ap (λ s. unread s 0 (drop c.sign-sign.result.len t)) (sym printed)
     ∙ c.expected_end.ensures.rest in
-    omega (arith, ltb-true _ _ inside, ap length (sym rest ∙ expected-whole f t d sign.symbols whole spells), length-drop c.expected_end.result t)
+    let none = ap length (sym rest ∙ expected-whole f t d sign.symbols whole spells) in
+    omega (arith, ltb-true _ _ inside, none, length-drop c.expected_end.result t)
