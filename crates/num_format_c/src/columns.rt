@@ -673,6 +673,7 @@ fn parse_typed<N: Value>(
 }
 
 /// Parses a text as people type it as a number of a type, writes the bytes of the number, and returns 0.
+#[inline(always)]
 pub fn parse_one(
     format: &NumFormat,
     value_code: u32,
