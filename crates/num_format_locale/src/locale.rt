@@ -116,7 +116,8 @@ impl Locale {
     /// where no name is.
     ///
     /// A tag is compared with names alone. No code is replaced by another, such as the old `iw` by
-    /// `he`, and no script or region is added: `zh-TW` is `zh`, and not `zh-Hant`.
+    /// `he`, and no script or region is added: `zh-TW` is `zh`, and not `zh-Hant`. Digits that a tag
+    /// names, as `fa-u-nu-arabext`, do not count: `Digits::of_tag` of num_format_digits returns them.
     ///
     /// The Rust crate has no such function.
     ///

@@ -135,6 +135,7 @@ impl Locale {
     /// What follows the first `.` or `@` does not count, nor does the case of ASCII letters, and an underscore counts as a
     /// hyphen. From what is left, subtags are taken away at the end until it is a name: `de-DE` becomes `de`. `C` and
     /// `POSIX` are the locale en-US-POSIX.
+    /// Digits that a tag names, as `fa-u-nu-arabext`, do not count: see [`Digits::of_tag`](crate::Digits::of_tag).
     ///
     /// ```
     /// use num_format::Locale;
