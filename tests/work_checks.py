@@ -8,7 +8,7 @@ No contract counts work: a body that prints, copies or tests twice returns the s
 many instructions each call of tests/work_checks.c takes, and a call fails that takes over a tenth more or less.
 Where a change means to, write the table again, and commit it with the change. Whatever the table says, the calls of
 AT_MOST, and these alone, take at most so many times what others take: typed parsing beside strict parsing, and other
-digits beside 0 to 9. Shorter texts, and digits of three and four bytes, take more.
+digits beside 0 to 9. Other texts, sets and columns may take more.
 
 Valgrind's callgrind counts. The counts are the same in each run and on each processor, and other compilers of the
 program in C change them by a few. Without valgrind or a C compiler the checks are skipped, and a last line says so.

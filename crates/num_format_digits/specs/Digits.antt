@@ -90,10 +90,11 @@ ascii_of z t = images (plain_char z) t
 abbrev pub HasNoOthers : List ℕ → Type 0
 HasNoOthers t = IsUtf8 t × (list_any is_other_numeral (chars t) ≡ false)
 
--- symbols of two and of three bytes that formats of locales have, and marks of direction
+-- U+00A0, U+061C, U+066B and U+066C, as two bytes each: formats of locales have them
 abbrev pub common_pairs : List (List ℕ)
 common_pairs = (0xC2 ∷ 0xA0 ∷ []) ∷ (0xD8 ∷ 0x9C ∷ []) ∷ (0xD9 ∷ 0xAB ∷ []) ∷ (0xD9 ∷ 0xAC ∷ []) ∷ []
 
+-- U+200E, U+200F, U+2019, U+202F and U+2212, as three bytes each
 abbrev pub common_triples : List (List ℕ)
 common_triples =
     (0xE2 ∷ 0x80 ∷ 0x8E ∷ []) ∷ (0xE2 ∷ 0x80 ∷ 0x8F ∷ []) ∷ (0xE2 ∷ 0x80 ∷ 0x99 ∷ []) ∷ (0xE2 ∷ 0x80 ∷ 0xAF ∷ [])
