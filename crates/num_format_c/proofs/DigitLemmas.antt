@@ -11,7 +11,7 @@ use Rattle.num_format_digits.proofs.SetLemmas.{latin_first}
 use Rattle.num_format_digits.proofs.TextLemmas.{in_latin}
 use Rattle.num_format_c.specs.Calls.{PrintsText, ReturnsLength, Writes}
 use Rattle.num_format_c.specs.Columns.{UnderFormat, rows_in}
-use Rattle.num_format_c.specs.Held.{HasFormat, HasLatin, IsFormatIn, digits_of, format_of}
+use Rattle.num_format_c.specs.FormatRef.{HasFormat, HasLatin, IsFormatIn, digits_of, format_of}
 use Rattle.num_format_c.specs.declared.format.NumFormat.{NumFormat}
 
 -- the texts of rows are as they are

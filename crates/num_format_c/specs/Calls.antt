@@ -37,7 +37,7 @@ use Rattle.num_format_digits.specs.declared.tags.UnknownDigits.{UnknownDigits}
 use Rattle.num_format_typed.specs.Typed.{ParsesTyped, TypedAtScaleResult, TypedDecimalResult}
 use Rattle.num_format_typed.specs.declared.typed.TypedError.{TypedError}
 use Rattle.num_format_typed.specs.declared.typed.TypedError.TheVariants as typed
-use Rattle.num_format_c.specs.Held.{Agrees, HasFormat, HasLatin, IsPadded, digits_of, format_of, format_with, grouping_of}
+use Rattle.num_format_c.specs.FormatRef.{Agrees, HasFormat, HasLatin, IsPadded, digits_of, format_of, format_with, grouping_of}
 use Rattle.num_format_c.specs.declared.format.NumFormat.{NumFormat}
 use Rattle.num_format_c.specs.declared.status.Status.{Status}
 use Rattle.num_format_c.specs.declared.status.Status.TheVariants.{BadFormat, TooSmall, NotUtf8, NotANumber, UnknownLocale, TooLong}

@@ -15,7 +15,7 @@ use Rattle.num_format_decimal.specs.declared.decimal.TheConstants.{MAX_SCALE}
 use Rattle.num_format_digits.specs.Digits.{HasOneSet, ascii_of, in_digits}
 use Rattle.num_format_typed.specs.Typed.{IsTypable}
 use Rattle.num_format_c.specs.Calls.{Crosses, Fails, Into, Parsing, ParsesInto, numbers, typed_numbers}
-use Rattle.num_format_c.specs.Held.{HasFormat, HasLatin, digits_of, format_of}
+use Rattle.num_format_c.specs.FormatRef.{HasFormat, HasLatin, digits_of, format_of}
 use Rattle.num_format_c.specs.declared.format.NumFormat.{NumFormat}
 use Rattle.num_format_c.specs.declared.layout.offset.OffsetType.{OffsetType}
 use Rattle.num_format_c.specs.declared.layout.texts.Texts.{Texts}

@@ -2,5 +2,5 @@
 pub mod Arithmetic
 pub mod Calls
 pub mod Columns
-pub mod Held
+pub mod FormatRef
 pub mod Layout

@@ -13,9 +13,9 @@ ghost use Rattle.num_format_c.specs.Calls.{Tells, Writes, WritesName, decimals, 
 ghost use Rattle.num_format_c.specs.Calls.{columns_of, returned, signed_kind, typed_decimals, typed_numbers};
 ghost use Rattle.num_format_c.specs.Calls.{unsigned_kind};
 ghost use Rattle.num_format_c.specs.declared.status.Status.TheVariants.{BadBits};
-ghost use Rattle.num_format_c.specs.Held.{HasFormat, HasLatin, IsFormatIn, IsFormatOf, digits_of, format_of};
+ghost use Rattle.num_format_c.specs.FormatRef.{HasFormat, HasLatin, IsFormatIn, IsFormatOf, digits_of, format_of};
 
-use crate::format::{Held, NumFormat, grouping_of};
+use crate::format::{FormatRef, NumFormat, grouping_of};
 use crate::shown;
 use crate::status::{Status, crossed};
 use crate::wide::decimal_of;
@@ -95,7 +95,7 @@ pub fn print<N: ToFormattedStr>(
 ) -> Result<i32, Status>
     ensures { Prints format.now (N.value number.now) text.old text.new (returned result) }
 {
-    match Held::latin(format) {
+    match FormatRef::latin(format) {
         Ok(format) => print_under(&format, number, text),
         Err(_) => shown::print(format, number, text),
     }
@@ -120,7 +120,7 @@ fn print_under<F: Format, N: ToFormattedStr>(
 pub fn text_len<N: ToFormattedStr>(format: &NumFormat, number: &N) -> Result<i32, Status>
     ensures { ReturnsLength format.now (λ f. text_of f (N.value number.now)) (returned result) }
 {
-    match Held::latin(format) {
+    match FormatRef::latin(format) {
         Ok(format) => Ok(num_format::text_len(number, &format) as i32),
         Err(_) => shown::text_len(format, number),
     }
@@ -137,7 +137,7 @@ pub fn print_decimal(
     ensures { PrintsDecimal format.now (decimal_of low high scale) text.old text.new (returned result) }
 {
     let number = decimal_of(low, high, scale)?;
-    match Held::latin(format) {
+    match FormatRef::latin(format) {
         Ok(format) => write(DecimalBuffer::of(&number, &format).as_str(), text),
         Err(_) => shown::print_decimal(format, &number, text),
     }
@@ -148,7 +148,7 @@ pub fn decimal_len(format: &NumFormat, low: u64, high: u64, scale: u32) -> Resul
     ensures { ReturnsDecimalLength format.now (decimal_of low high scale) (returned result) }
 {
     let number = decimal_of(low, high, scale)?;
-    match Held::latin(format) {
+    match FormatRef::latin(format) {
         Ok(format) => Ok(num_format_decimal::text_len(&number, &format) as i32),
         Err(_) => shown::decimal_len(format, &number),
     }
@@ -183,7 +183,7 @@ fn begins_with_mark(text: &[u8]) -> bool
 pub fn parse<N: FromFormattedStr>(format: &NumFormat, text: &[u8]) -> Result<N, Status>
     ensures { Parses N.kind N.value format.now text.now result }
 {
-    let format = Held::latin(format)?;
+    let format = FormatRef::latin(format)?;
     parse_under(&format, text)
 }
 
@@ -241,7 +241,7 @@ pub fn parse_strict<N: FromFormattedStr>(
 ) -> Result<N, Status>
     ensures { Gets (numbers N.kind) N.value format.now text.now at.old at.new result }
 {
-    match Held::latin(format) {
+    match FormatRef::latin(format) {
         Ok(format) => crossed(N::from_strict_bytes(text, &format), at),
         Err(_) => parse_strict_in(format, text, at),
     }
@@ -257,7 +257,7 @@ fn parse_strict_in<N: FromFormattedStr>(
 ) -> Result<N, Status>
     ensures { Gets (numbers N.kind) N.value format.now text.now at.old at.new result }
 {
-    let (held, digits) = Held::new(format)?;
+    let (held, digits) = FormatRef::new(format)?;
     if !digits.is_latin() {
         if let Some(number) = digits.parse_shown::<N, _>(text, &held) {
             return Ok(number);
@@ -276,7 +276,7 @@ fn parse_strict_any<N: FromFormattedStr>(
 ) -> Result<N, Status>
     ensures { Gets (numbers N.kind) N.value format.now text.now at.old at.new result }
 {
-    let (format, digits) = Held::new(format)?;
+    let (format, digits) = FormatRef::new(format)?;
     match in_others(text, digits) {
         None => crossed(parse_by_parser::<N, _>(text, &format), at),
         Some(text) => crossed(digits.parse_strict::<N, _>(text, &format), at),
@@ -324,7 +324,7 @@ pub fn parse_strict_unsigned(
 pub fn parse_decimal(format: &NumFormat, text: &[u8], at: &mut usize) -> Result<Decimal, Status>
     ensures { Gets decimals (λ d. d) format.now text.now at.old at.new result }
 {
-    let (format, digits) = Held::new(format)?;
+    let (format, digits) = FormatRef::new(format)?;
     match in_others(text, digits) {
         None => crossed(Decimal::from_strict_bytes(text, &format), at),
         Some(text) => crossed(digits.parse_decimal(text, &format), at),
@@ -375,7 +375,7 @@ pub fn parse_typed_decimal(
 ) -> Result<Decimal, Status>
     ensures { Gets typed_decimals (λ d. d) format.now text.now at.old at.new result }
 {
-    let (format, digits) = Held::new(format)?;
+    let (format, digits) = FormatRef::new(format)?;
     match in_others(text, digits) {
         None => crossed(parse_typed_decimal_bytes(text, &format), at),
         Some(text) => crossed(digits.parse_typed_decimal(text, &format), at),
@@ -409,7 +409,7 @@ pub fn fill_custom(
         return Err(Status::TooLong);
     };
     let grouping = grouping_of(grouping).ok_or(Status::BadGrouping)?;
-    *format = NumFormat::new(&Held {
+    *format = NumFormat::new(&FormatRef {
         separator,
         grouping,
         minus_sign,
@@ -461,7 +461,7 @@ pub fn name_by_tag(tag: &[u8], array: &mut [u8]) -> Result<i32, Status>
 pub fn reads_back(format: &NumFormat) -> Result<i32, Status>
     ensures { Tells (HasLatin format.now) (RoundTrips (format_of format.now)) (returned result) }
 {
-    let format = Held::latin(format)?;
+    let format = FormatRef::latin(format)?;
     Ok(truth(num_format::reads_back(&format)))
 }
 
@@ -471,8 +471,8 @@ pub fn prints_alike(first: &NumFormat, second: &NumFormat) -> Result<i32, Status
         ((digits_of first.now ≡ digits_of second.now) × Alike (format_of first.now) (format_of second.now))
         (returned result) }
 {
-    let (first, digits) = Held::new(first)?;
-    let (second, others) = Held::new(second)?;
+    let (first, digits) = FormatRef::new(first)?;
+    let (second, others) = FormatRef::new(second)?;
     if digits != others {
         return Ok(0);
     }

@@ -16,7 +16,7 @@ ghost use Rattle.num_format_c.specs.Columns.{ParsesNumbers, ParsesRow, ParsesTyp
 ghost use Rattle.num_format_c.specs.Columns.{PrintsDecimals, PrintsNumbers, PrintsRows, PrintsValues, Row, RowParser};
 ghost use Rattle.num_format_c.specs.Columns.{TypesDecimals};
 ghost use Rattle.num_format_c.specs.Columns.{decimal_at, decimal_units, rows_in, to_parsed, to_printed};
-ghost use Rattle.num_format_c.specs.Held.{IsFormatIn, IsFormatOf, IsParserIn, format_with};
+ghost use Rattle.num_format_c.specs.FormatRef.{IsFormatIn, IsFormatOf, IsParserIn, format_with};
 ghost use Rattle.num_format_c.specs.Layout.{IsEnough, MatchType, number_at, row_bytes, row_count, row_text, texts_of};
 ghost use Rattle.num_format_c.specs.Layout.{value_type_of};
 ghost use Rattle.num_format_c.specs.declared.status.Status.TheVariants.{BadType};
@@ -25,7 +25,7 @@ ghost use Rattle.num_format_decimal.specs.Parsing.{AtScaleResult};
 ghost use Rattle.num_format_typed.specs.Typed.{IsTypable, ParsesTyped, TypedAtScaleResult};
 
 use crate::calls::{self, in_others};
-use crate::format::{Held, NumFormat};
+use crate::format::{FormatRef, NumFormat};
 use crate::layout::{
     OffsetType, Printer, Rows, Texts, Value, ValueType, Values, print_texts, row_count, set_value,
     texts_len,
@@ -228,7 +228,7 @@ fn print_numbers<N: Value>(
     ensures { PrintsValues N.repr text_of offset_type format.now values.now
         (to_printed offsets.old bytes.old len.old) (to_printed offsets.new bytes.new len.new) (returned result) }
 {
-    let (format, digits) = Held::new(format)?;
+    let (format, digits) = FormatRef::new(format)?;
     let rows = Rows::<N>::new(values)?;
     let format = &format;
     let printer = NumberPrinter { rows, format };
@@ -250,7 +250,7 @@ pub fn print_decimals(
 {
     let scale = scale_of(scale)?;
     let offset_type = OffsetType::from_code(offset_code).ok_or(Status::BadType)?;
-    let (format, digits) = Held::new(format)?;
+    let (format, digits) = FormatRef::new(format)?;
     let rows = Rows::new(units)?;
     let printer = DecimalPrinter {
         rows,
@@ -332,7 +332,7 @@ fn measure_numbers<N: Value>(
 ) -> Result<i32, Status>
     ensures { MeasuresValues N.repr text_of format.now values.now len.old len.new (returned result) }
 {
-    let (format, digits) = Held::new(format)?;
+    let (format, digits) = FormatRef::new(format)?;
     let rows = Rows::<N>::new(values)?;
     let format = &format;
     measure_in(&NumberPrinter { rows, format }, digits, len)
@@ -348,7 +348,7 @@ pub fn measure_decimals(
     ensures { MeasuresDecimals scale format.now units.now len.old len.new (returned result) }
 {
     let scale = scale_of(scale)?;
-    let (format, digits) = Held::new(format)?;
+    let (format, digits) = FormatRef::new(format)?;
     let rows = Rows::new(units)?;
     let printer = DecimalPrinter {
         rows,
@@ -395,7 +395,7 @@ trait Parser<N: Value> {
 }
 
 /// By a format alone, parsing ignores characters that are not numeric.
-impl<'a, N: Value> Parser<N> for Held<'a> {
+impl<'a, N: Value> Parser<N> for FormatRef<'a> {
     ghost IsFor = { λ h. IsFormatOf (format_with h.separator h.grouping h.minus_sign h.decimal_mark) };
 
     ghost Parses = { λ _. ParsesInto N.kind };
@@ -429,15 +429,15 @@ impl<'a, N: Value, F: Format> Parser<N> for TypedParser<'a, F> {
 trait AsciiParser<T> {
     ghost use Rattle.std.specs.Prelude.{List, ℕ};
 
-    ghost Spells: { Self → List ℕ → T → Type 0 };
+    ghost Accepts: { Self → List ℕ → T → Type 0 };
 
-    /// Returns the number that a text spells, or `None` if it is refused.
+    /// Returns the number for which a text is canonical, or `None` if it is refused.
     fn read(&self, ascii: &[u8]) -> Option<T>
-        ensures { IfSome result (λ x. Spells self.now ascii.now x) };
+        ensures { IfSome result (λ x. Accepts self.now ascii.now x) };
 }
 
 impl<'a, N: Value, F: Format> AsciiParser<N> for StrictParser<'a, F> {
-    ghost Spells = { λ p t n. ParsesStrictly N.kind N.value p t (Ok n) };
+    ghost Accepts = { λ p t n. ParsesStrictly N.kind N.value p t (Ok n) };
 
     fn read(&self, ascii: &[u8]) -> Option<N> {
         self.number(ascii)
@@ -445,7 +445,7 @@ impl<'a, N: Value, F: Format> AsciiParser<N> for StrictParser<'a, F> {
 }
 
 impl<'a, N: Value, F: Format> AsciiParser<N> for TypedParser<'a, F> {
-    ghost Spells = { λ p t n. ParsesTyped N.kind N.value p t (Ok n) };
+    ghost Accepts = { λ p t n. ParsesTyped N.kind N.value p t (Ok n) };
 
     fn read(&self, ascii: &[u8]) -> Option<N> {
         match self.parse_bytes(ascii) {
@@ -456,7 +456,7 @@ impl<'a, N: Value, F: Format> AsciiParser<N> for TypedParser<'a, F> {
 }
 
 impl<'a, F: Format> AsciiParser<Decimal> for AtScale<DigitParser<'a, DecimalParser<'a, F>, F>> {
-    ghost Spells = { λ p t d. AtScaleResult p.parser.parser t p.scale (Ok d) };
+    ghost Accepts = { λ p t d. AtScaleResult p.parser.parser t p.scale (Ok d) };
 
     fn read(&self, ascii: &[u8]) -> Option<Decimal> {
         let parser = &self.parser.parser;
@@ -465,7 +465,7 @@ impl<'a, F: Format> AsciiParser<Decimal> for AtScale<DigitParser<'a, DecimalPars
 }
 
 impl<'a, F: Format> AsciiParser<Decimal> for AtScale<DigitParser<'a, TypedParser<'a, F>, F>> {
-    ghost Spells = { λ p t d. TypedAtScaleResult p.parser.parser t p.scale (Ok d) };
+    ghost Accepts = { λ p t d. TypedAtScaleResult p.parser.parser t p.scale (Ok d) };
 
     fn read(&self, ascii: &[u8]) -> Option<Decimal> {
         let parser = &self.parser.parser;
@@ -476,7 +476,7 @@ impl<'a, F: Format> AsciiParser<Decimal> for AtScale<DigitParser<'a, TypedParser
 /// Returns the number of a text in other digits than `0` to `9`, or `None` where only parsing in the set can tell.
 #[inline(always)]
 fn shown<T, P: AsciiParser<T>>(parser: &P, digits: Digits, text: &[u8]) -> Option<T>
-    ensures { IfSome result (λ x. IsShown digits text.now (λ t. P.Spells parser.now t x)) }
+    ensures { IfSome result (λ x. IsShown digits text.now (λ t. P.Accepts parser.now t x)) }
 {
     if digits.is_latin() {
         return None;
@@ -488,7 +488,7 @@ fn shown<T, P: AsciiParser<T>>(parser: &P, digits: Digits, text: &[u8]) -> Optio
 #[inline(never)]
 fn shown_in<T, P: AsciiParser<T>>(parser: &P, digits: Digits, text: &[u8]) -> Option<T>
     requires { ¬ (digits ≡ 48) }
-    ensures { IfSome result (λ x. IsShown digits text.now (λ t. P.Spells parser.now t x)) }
+    ensures { IfSome result (λ x. IsShown digits text.now (λ t. P.Accepts parser.now t x)) }
 {
     let mut array = [0; MAX_DECIMAL_LEN];
     let len = digits.take_plain(text, &mut array)?;
@@ -618,7 +618,7 @@ fn parse_numbers<N: Value>(
         STRICT => parse_strictly::<N>(format, offset_type, texts, values, statuses),
         TYPED => parse_typed::<N>(format, offset_type, texts, values, statuses),
         _ => {
-            let format = Held::latin(format)?;
+            let format = FormatRef::latin(format)?;
             parse_column::<N, _>(&format, offset_type, texts, values, statuses)
         }
     }
@@ -635,7 +635,7 @@ fn parse_strictly<N: Value>(
     ensures { ParsesUnder IsUnambiguous (Row (numbers N.kind) (λ z. z)) N.repr offset_type format.now texts.now
         (to_parsed values.old statuses.old) (to_parsed values.new statuses.new) (returned result) }
 {
-    let (format, digits) = Held::new(format)?;
+    let (format, digits) = FormatRef::new(format)?;
     let parser = StrictParser::new(&format).or(Err(Status::AmbiguousFormat))?;
     if digits.is_latin() {
         return parse_column::<N, _>(&parser, offset_type, texts, values, statuses);
@@ -659,7 +659,7 @@ fn parse_typed<N: Value>(
     ensures { ParsesUnder IsTypable (Row (typed_numbers N.kind) (λ z. z)) N.repr offset_type format.now texts.now
         (to_parsed values.old statuses.old) (to_parsed values.new statuses.new) (returned result) }
 {
-    let (format, digits) = Held::new(format)?;
+    let (format, digits) = FormatRef::new(format)?;
     let parser = TypedParser::new(&format).or(Err(Status::AmbiguousFormat))?;
     if digits.is_latin() {
         return parse_column::<N, _>(&parser, offset_type, texts, values, statuses);
@@ -699,7 +699,7 @@ fn parse_number<N: Value>(
 ) -> Result<i32, Status>
     ensures { ParsesTypedInto N.repr N.kind format.now text.now value.old value.new at.old at.new (returned result) }
 {
-    let (format, digits) = Held::new(format)?;
+    let (format, digits) = FormatRef::new(format)?;
     if value.len() != N::size() {
         return Err(Status::BadLength);
     }
@@ -726,7 +726,7 @@ pub fn parse_decimals(
 {
     let scale = scale_of(scale)?;
     let offset_type = OffsetType::from_code(offset_code).ok_or(Status::BadType)?;
-    let (format, digits) = Held::new(format)?;
+    let (format, digits) = FormatRef::new(format)?;
     let parser = DecimalParser::new(&format).or(Err(Status::AmbiguousFormat))?;
     let parser = DigitParser {
         parser,
@@ -751,7 +751,7 @@ pub fn parse_typed_decimals(
 {
     let scale = scale_of(scale)?;
     let offset_type = OffsetType::from_code(offset_code).ok_or(Status::BadType)?;
-    let (format, digits) = Held::new(format)?;
+    let (format, digits) = FormatRef::new(format)?;
     let Ok(parser) = TypedParser::new(&format) else {
         return Err(Status::AmbiguousFormat);
     };

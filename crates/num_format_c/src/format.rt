@@ -2,8 +2,8 @@
 ghost use Rattle.std.specs.Prelude.{◌≡◌, ◌≤◌, take, drop, length, ◌++◌, IsTrue, IsUtf8, MatchResult, Some, ◌↔◌};
 ghost use Rattle.bstr.specs.Utf8.{continues};
 ghost use Rattle.num_format_c.specs.declared.status.Status.TheVariants.{BadFormat};
-ghost use Rattle.num_format_c.specs.Held.{Agrees, HasData, HasFormat, HasLatin, HasTexts, IsFormatIn, IsFormatOf};
-ghost use Rattle.num_format_c.specs.Held.{IsPadded, format_of, format_with, grouping_of, padded};
+ghost use Rattle.num_format_c.specs.FormatRef.{Agrees, HasData, HasFormat, HasLatin, HasTexts, IsFormatIn, IsFormatOf};
+ghost use Rattle.num_format_c.specs.FormatRef.{IsPadded, format_of, format_with, grouping_of, padded};
 ghost use Rattle.num_format_digits.specs.Digits.{set_numbered};
 
 use crate::status::Status;
@@ -14,7 +14,7 @@ use num_format_digits::Digits;
 /// The most bytes of a separator, a minus sign or a decimal mark.
 const CAPACITY: usize = 8;
 
-/// A format as a C program owns it. It may have any bytes: [`Held::new`] says whether they are those
+/// A format as a C program owns it. It may have any bytes: [`FormatRef::new`] says whether they are those
 /// of a format.
 ///
 /// A text is at the start of its array. A grouping is a number, as [`grouping_of`] says.
@@ -110,28 +110,28 @@ fn padded(text: &str) -> [u8; CAPACITY]
 /// A format whose texts are elsewhere, with the data that the text of a number depends on. The others are
 /// those of the locale `en`.
 #[derive(Drop)]
-pub struct Held<'a> {
+pub struct FormatRef<'a> {
     pub separator: SeparatorStr<'a>,
     pub grouping: Grouping,
     pub minus_sign: MinusSignStr<'a>,
     pub decimal_mark: DecimalStr<'a>,
 }
 
-impl<'a> Held<'a> {
+impl<'a> FormatRef<'a> {
     /// Returns the format that the struct has, and its digit set, if it has one.
     #[inline(always)]
-    pub fn new(format: &'a NumFormat) -> Result<(Held<'a>, Digits), Status>
+    pub fn new(format: &'a NumFormat) -> Result<(FormatRef<'a>, Digits), Status>
         ensures { MatchResult result
             (λ h. IsFormatIn (format_with h.0.separator h.0.grouping h.0.minus_sign h.0.decimal_mark) h.1 format.now)
             (λ status. (status ≡ BadFormat) × (¬ (HasFormat format.now))) }
     {
         let digits = format.digit_set().ok_or(Status::BadFormat)?;
-        Ok((Held::data(format)?, digits))
+        Ok((FormatRef::data(format)?, digits))
     }
 
     /// Returns the format that the struct has, if it has one whose digits are `0` to `9`.
     #[inline(always)]
-    pub fn latin(format: &'a NumFormat) -> Result<Held<'a>, Status>
+    pub fn latin(format: &'a NumFormat) -> Result<FormatRef<'a>, Status>
         ensures { MatchResult result
             (λ h. IsFormatOf (format_with h.separator h.grouping h.minus_sign h.decimal_mark) format.now)
             (λ status. (status ≡ BadFormat) × (¬ (HasLatin format.now))) }
@@ -139,12 +139,12 @@ impl<'a> Held<'a> {
         if format.digits != 0 {
             return Err(Status::BadFormat);
         }
-        Held::data(format)
+        FormatRef::data(format)
     }
 
     /// Returns the format without its digits.
     #[inline(always)]
-    fn data(format: &'a NumFormat) -> Result<Held<'a>, Status>
+    fn data(format: &'a NumFormat) -> Result<FormatRef<'a>, Status>
         ensures { MatchResult result
             (λ h. HasData format.now
             × (format_with h.separator h.grouping h.minus_sign h.decimal_mark ≡ format_of format.now))
@@ -157,7 +157,7 @@ impl<'a> Held<'a> {
         let separator = text_at(&format.separator, format.separator_len);
         let minus_sign = text_at(&format.minus_sign, format.minus_sign_len);
         let decimal_mark = text_at(&format.decimal_mark, format.decimal_mark_len);
-        Ok(Held {
+        Ok(FormatRef {
             separator: SeparatorStr::of(separator),
             grouping,
             minus_sign: MinusSignStr::of(minus_sign),
@@ -229,7 +229,7 @@ fn number_of(grouping: Grouping) -> u8
     grouping as u8 + 1
 }
 
-impl<'a> Format for Held<'a> {
+impl<'a> Format for FormatRef<'a> {
     ghost answers = { λ h. format_with h.separator h.grouping h.minus_sign h.decimal_mark };
 
     fn decimal(&self) -> DecimalStr<'_> {

@@ -37,7 +37,7 @@ ghost use Rattle.num_format_c.specs.Columns.{ParsesTypedInto, PrintsDecimals, Pr
 ghost use Rattle.num_format_c.specs.Columns.{to_printed};
 ghost use Rattle.num_format_c.specs.Layout.{MatchType, to_texts, to_values, value_type_of};
 ghost use Rattle.num_format_c.specs.declared.status.Status.TheVariants.{BadBits, BadType};
-ghost use Rattle.num_format_c.specs.Held.{HasFormat, HasLatin, digits_of, format_of};
+ghost use Rattle.num_format_c.specs.FormatRef.{HasFormat, HasLatin, digits_of, format_of};
 
 mod arithmetic;
 mod calls;

@@ -8,7 +8,7 @@ ghost use Rattle.num_format_digits.specs.Digits.{in_digits};
 ghost use Rattle.num_format_c.specs.Calls.{Prints, PrintsText, ReturnsLength, Writes, returned};
 
 use crate::calls::write;
-use crate::format::{Held, NumFormat};
+use crate::format::{FormatRef, NumFormat};
 use crate::status::Status;
 use num_format::{Buffer, ToFormattedStr};
 use num_format_decimal::{Decimal, DecimalBuffer};
@@ -25,7 +25,7 @@ pub fn print<N: ToFormattedStr>(
 ) -> Result<i32, Status>
     ensures { Prints format.now (N.value number.now) text.old text.new (returned result) }
 {
-    let (format, digits) = Held::new(format)?;
+    let (format, digits) = FormatRef::new(format)?;
     write_in(Buffer::of(number, &format).as_str(), digits, text)
 }
 
@@ -35,7 +35,7 @@ pub fn print<N: ToFormattedStr>(
 pub fn text_len<N: ToFormattedStr>(format: &NumFormat, number: &N) -> Result<i32, Status>
     ensures { ReturnsLength format.now (λ f. text_of f (N.value number.now)) (returned result) }
 {
-    let (format, digits) = Held::new(format)?;
+    let (format, digits) = FormatRef::new(format)?;
     Ok(DigitText::of(number, &format, digits).as_str().len() as i32)
 }
 
@@ -45,7 +45,7 @@ pub fn text_len<N: ToFormattedStr>(format: &NumFormat, number: &N) -> Result<i32
 pub fn print_decimal(format: &NumFormat, number: &Decimal, text: &mut [u8]) -> Result<i32, Status>
     ensures { PrintsText format.now (λ f. decimal_text f number.now) text.old text.new (returned result) }
 {
-    let (format, digits) = Held::new(format)?;
+    let (format, digits) = FormatRef::new(format)?;
     write_in(DecimalBuffer::of(number, &format).as_str(), digits, text)
 }
 
@@ -55,7 +55,7 @@ pub fn print_decimal(format: &NumFormat, number: &Decimal, text: &mut [u8]) -> R
 pub fn decimal_len(format: &NumFormat, number: &Decimal) -> Result<i32, Status>
     ensures { ReturnsLength format.now (λ f. decimal_text f number.now) (returned result) }
 {
-    let (format, digits) = Held::new(format)?;
+    let (format, digits) = FormatRef::new(format)?;
     Ok(
         DigitText::of_decimal(number, &format, digits)
             .as_str()

@@ -26,13 +26,13 @@ use Rattle.num_format_int.specs.Text.{body_of, text_of}
 use Rattle.num_format_int.proofs.DigitLemmas.{AreDigits, digits-below_ten}
 use Rattle.num_format_int.proofs.GroupedLemmas.{length-grouped, of_either}
 use Rattle.num_format_int.proofs.TextLemmas.{length-digits-i128-MIN}
-use Rattle.num_format_parsing.specs.Reading.{figures, is_negative_text, is_other_numeral, other_numeral, too_many_figures}
+use Rattle.num_format_parsing.specs.Reading.{text_digits, is_negative_text, is_other_numeral, other_numeral, too_many_digits}
 use Rattle.num_format_parsing.specs.Strict.{with_separators}
 use Rattle.num_format_parsing.proofs.CommonLemmas.{empty_plain, of_printed}
 use Rattle.num_format_parsing.proofs.ReadingLemmas.{is_ascii_digit-digit, is_other_numeral-digit, ucd_category}
 use Rattle.num_format_parsing.proofs.SymbolLemmas.{plain-symbols}
-use Rattle.num_format_parsing.proofs.ToldLemmas.{AllowsLongest, Tells, tells-accepted, tells-same, tells-spelled}
-use Rattle.num_format_parsing.proofs.SpellingLemmas.{utf8-separated}
+use Rattle.num_format_parsing.proofs.ToldLemmas.{AllowsLongest, Tells, tells-accepted, tells-same, tells-canonical}
+use Rattle.num_format_parsing.proofs.CanonicalLemmas.{utf8-separated}
 use Rattle.num_format_certificates.specs.Laws.{BothNeededLaw, RoundTripLaw, Utf8Law}
 use Rattle.num_format_certificates.specs.RoundTrips.{ReadsBack, RoundTrips, HasNoNumeral, IsUnambiguous}
 
@@ -54,7 +54,7 @@ reads_back-from_tells t f z value tells = record {
 pub round_trips-from_unambiguous : (f : FormatData) → IsUtf8 f.minus_sign → IsUtf8 f.separator → IsUnambiguous f → RoundTrips f
 round_trips-from_unambiguous f sign separator plain t z value =
     let symbols = plain-symbols f plain sign (of_printed IsUtf8 IsUtf8-nil f.grouping f.separator separator) in
-    reads_back-from_tells t f z value (tells-spelled f z (text_of f z) symbols (with_separators refl))
+    reads_back-from_tells t f z value (tells-canonical f z (text_of f z) symbols (with_separators refl))
 
 -- the digits and the other numerals among characters
 abbrev numerals_among : List ℕ → List ℕ
@@ -116,7 +116,7 @@ pub unambiguous-from_two : (f : FormatData) → IsUtf8 f.minus_sign → IsUtf8 f
 unambiguous-from_two f sign separator (one, lowest) =
     let text = text_of f (negsuc (2 ^ 127 - 1)) in
     let negative : is_negative_text f text ≡ true = (starts_is Decides-eqb text f.minus_sign _ refl).1 (body_of f (2 ^ 127)) refl in
-    let few : ¬ (40 < length (figures text) + 1) = λ many. lowest.accepted (too_many_figures (rw negative many)) in
+    let few : ¬ (40 < length (text_digits text) + 1) = λ many. lowest.accepted (too_many_digits (rw negative many)) in
     let digits_only = only_digits (chars text) (false_from_ne_true _ (λ some. lowest.accepted (other_numeral some))) in
     let ds = digits (2 ^ 127) in
     let body = numerals-separated (stands f.grouping (length ds)) f.separator ds separator (digits-below_ten (2 ^ 127)) in
@@ -149,12 +149,12 @@ both_needed_law =
     let f = english_with Standard (codes ",") (codes "-0") in
     let g = english_with Standard (codes ",") [] in record {
       lowest = (
-        reads_back-from_tells I128 f (pos 1) one_of_i128 (record { figures = refl; plain = refl; sign = refl }),
-        λ reads_back. reads_back.accepted (too_many_figures (omega arith)),
+        reads_back-from_tells I128 f (pos 1) one_of_i128 (record { digit_count = refl; plain = refl; sign = refl }),
+        λ reads_back. reads_back.accepted (too_many_digits (omega arith)),
       );
       one = (
         λ reads_back. (let wrong : negsuc 0 ≡ pos 1 = reads_back.same in cc),
-        reads_back-from_tells I128 g (negsuc (2 ^ 127 - 1)) lowest_of_i128 (record { figures = refl; plain = refl; sign = refl }),
+        reads_back-from_tells I128 g (negsuc (2 ^ 127 - 1)) lowest_of_i128 (record { digit_count = refl; plain = refl; sign = refl }),
       );
     }
 

@@ -9,6 +9,6 @@ pub mod PrintLemmas
 pub mod ReadLemmas
 mod RefusalLemmas
 pub mod ScaleLemmas
-pub mod SpelledLemmas
+pub mod CanonicalLemmas
 pub mod SumLemmas
 pub mod TextLemmas

@@ -24,21 +24,21 @@ use Rattle.num_format_int.specs.Kind.{signed_number}
 use Rattle.num_format_int.proofs.DigitLemmas.{AreDigits, digits-below_ten, digits_given}
 use Rattle.num_format_int.proofs.GroupedLemmas.{grouped-Posix, grouped-printed, of_either, stands-last}
 use Rattle.num_format_parsing.specs.Reading.{denoted, is_negative_text, magnitude_of}
-use Rattle.num_format_parsing.specs.Shapes.{byte_figures}
+use Rattle.num_format_parsing.specs.Shapes.{byte_digits}
 use Rattle.num_format_parsing.specs.Strict.{HasNoNumeral}
-use Rattle.num_format_parsing.proofs.FigureLemmas.{figures-bytes, figures-other}
+use Rattle.num_format_parsing.proofs.DigitLemmas.{text_digits-bytes, text_digits-other}
 use Rattle.num_format_parsing.proofs.CommonLemmas.{of_printed}
 use Rattle.num_format_parsing.proofs.SymbolLemmas.{some_first}
 use Rattle.num_format_parsing.proofs.UnreadLemmas.{begins-at_digit, begins-given, plain-first}
 use Rattle.num_format_parsing.proofs.ReadingLemmas.{digits_among-append, digits_among-separated, is_ascii_digit-digit}
-use Rattle.num_format_parsing.proofs.SpellingLemmas.{signed_number-unsigned_abs, utf8-separated}
+use Rattle.num_format_parsing.proofs.CanonicalLemmas.{signed_number-unsigned_abs, utf8-separated}
 use Rattle.num_format_certificates.proofs.RoundTripLemmas.{two-from_all, unambiguous-from_two}
 use Rattle.num_format_decimal.specs.FixedPoint.{FixedPoint, fixed_point}
 use Rattle.num_format_decimal.specs.Marks.{IsPlainFormat, MarksDecimals}
-use Rattle.num_format_decimal.specs.Parsing.{SpellsDecimal}
+use Rattle.num_format_decimal.specs.Parsing.{IsCanonicalDecimal}
 use Rattle.num_format_decimal.specs.Shapes.{IsSigned, tail_digits}
 use Rattle.num_format_decimal.specs.Text.{decimals_of, mark_at}
-use Rattle.num_format_decimal.proofs.SpelledLemmas.{all-plain, last_digits-below, number-digits, signed-spelled}
+use Rattle.num_format_decimal.proofs.CanonicalLemmas.{all-plain, last_digits-below, number-digits, signed-canonical}
 use Rattle.num_format_decimal.proofs.TextLemmas.{length-plain, mark-some}
 
 pub plain-from_marks : (f : FormatData) → IsUtf8 f.minus_sign → IsUtf8 f.separator → IsUtf8 f.decimal → MarksDecimals f → IsPlainFormat f
@@ -54,19 +54,19 @@ plain-from_marks f sign separator mark marks = record {
 -- a text in UTF-8 whose digits are these
 pub record IsPlainText (t ds : List ℕ) : Type 0 where
   pub utf8 : IsUtf8 t
-  pub digits : byte_figures t ≡ ds
+  pub digits : byte_digits t ≡ ds
 
 plain-append : (s t ds es : List ℕ) → IsPlainText s ds → IsPlainText t es → IsPlainText (s ++ t) (ds ++ es)
 plain-append s t ds es first second = record {
   utf8 = IsUtf8-append s t first.utf8 second.utf8;
-  digits = digits_among-append s t ∙ ap (λ xs. xs ++ byte_figures t) first.digits ∙ ap (λ xs. ds ++ xs) second.digits;
+  digits = digits_among-append s t ∙ ap (λ xs. xs ++ byte_digits t) first.digits ∙ ap (λ xs. ds ++ xs) second.digits;
 }
 
 plain-nil : IsPlainText [] []
 plain-nil = record { utf8 = IsUtf8-nil; digits = refl }
 
 plain-symbol : (s : List ℕ) → IsUtf8 s → HasNoNumeral s → IsPlainText s []
-plain-symbol s utf8 none = record { utf8 = utf8; digits = sym (figures-bytes s utf8) ∙ none.no_digit }
+plain-symbol s utf8 none = record { utf8 = utf8; digits = sym (text_digits-bytes s utf8) ∙ none.no_digit }
 
 plain-separated : (is_due : ℕ → Bool) (s ds : List ℕ) → IsPlainText s [] → AreDigits ds → IsPlainText (separated is_due s ds) ds
 plain-separated is_due s ds separator below = record {
@@ -156,12 +156,12 @@ module _ (f : FormatData) (p : IsPlainFormat f) where
       record {
         utf8 = all.utf8;
         sign = sign-told t b n k signed;
-        magnitude = ap (number_from_digits 10) (figures-bytes t all.utf8 ∙ all.digits) ∙ number-digits k n;
+        magnitude = ap (number_from_digits 10) (text_digits-bytes t all.utf8 ∙ all.digits) ∙ number-digits k n;
       }
 
-pub tells-spelled_decimal : (f : FormatData) (t : List ℕ) (z : ℤ) (k : ℕ) → IsPlainFormat f → SpellsDecimal f t (fixed_point z k)
+pub tells-canonical_decimal : (f : FormatData) (t : List ℕ) (z : ℤ) (k : ℕ) → IsPlainFormat f → IsCanonicalDecimal f t (fixed_point z k)
     → Tells f t (is_negative z) (unsigned_abs z)
-tells-spelled_decimal f t z k p spells = tells-signed f p t (is_negative z) (unsigned_abs z) k (signed-spelled f t (fixed_point z k) spells)
+tells-canonical_decimal f t z k p is_canonical = tells-signed f p t (is_negative z) (unsigned_abs z) k (signed-canonical f t (fixed_point z k) is_canonical)
 
 -- it denotes the units
 pub denoted-decimal : (f : FormatData) (t : List ℕ) (z : ℤ) (k : ℕ) → Tells f t (is_negative z) (unsigned_abs z) → denoted f t ≡ z
@@ -169,8 +169,8 @@ denoted-decimal f t z k tells = ap (λ b. signed_number b (magnitude_of t)) tell
     ∙ signed_number-unsigned_abs z
 
 -- the first of bytes without digits, and the others
-first_other : (b : ℕ) (t : List ℕ) → byte_figures (b ∷ t) ≡ [] → (is_ascii_digit b ≡ false) × (byte_figures t ≡ [])
-first_other b t none = let other = plain-first b t none in (other, sym (figures-other b t other) ∙ none)
+first_other : (b : ℕ) (t : List ℕ) → byte_digits (b ∷ t) ≡ [] → (is_ascii_digit b ≡ false) × (byte_digits t ≡ [])
+first_other b t none = let other = plain-first b t none in (other, sym (text_digits-other b t other) ∙ none)
 
 -- how many digits stand at the end of digits, and of a text that ends in others
 pub tail-all : (ds : List ℕ) → list_all is_ascii_digit ds ≡ true → tail_digits ds ≡ length ds
@@ -183,7 +183,7 @@ tail-skip (b ∷ xs) rest other = rw (list_all-append is_ascii_digit (b ∷ xs) 
     (tail-skip xs rest other)
 
 -- after a mark, these are the digits that follow it
-tail-marked : (mark ds : List ℕ) → byte_figures mark ≡ [] → ¬ (mark ≡ []) → list_all is_ascii_digit ds ≡ true
+tail-marked : (mark ds : List ℕ) → byte_digits mark ≡ [] → ¬ (mark ≡ []) → list_all is_ascii_digit ds ≡ true
     → (tail_digits (mark ++ ds) ≡ length ds) × (list_all is_ascii_digit (mark ++ ds) ≡ false)
 tail-marked [] ds none given all = absurd (given refl)
 tail-marked (c ∷ []) ds none given all = let other = (first_other c [] none).0 in (rw other (tail-all ds all), rw other refl)
@@ -212,7 +212,7 @@ runs : List ℕ → List ℕ → List (List ℕ)
 runs run [] = run ∷ []
 runs run (b ∷ t) = if is_ascii_digit b then run ∷ runs [] t else runs (run ++ (b ∷ [])) t
 
-runs-other : (xs run t : List ℕ) → byte_figures xs ≡ [] → runs run (xs ++ t) ≡ runs (run ++ xs) t
+runs-other : (xs run t : List ℕ) → byte_digits xs ≡ [] → runs run (xs ++ t) ≡ runs (run ++ xs) t
 unfolding runs
 runs-other [] run t none = ap (λ r. runs r t) (sym (append-nil run))
 runs-other (c ∷ xs) run t none =
@@ -221,7 +221,7 @@ runs-other (c ∷ xs) run t none =
     rw other (runs-other xs (run ++ (c ∷ [])) t first.1 ∙ ap (λ r. runs r t) (append_assoc run (c ∷ []) xs))
 
 -- among separated digits these are separators, or nothing
-module _ (P : List ℕ → Type 0) (is_due : ℕ → Bool) (s : List ℕ) (none : byte_figures s ≡ []) where
+module _ (P : List ℕ → Type 0) (is_due : ℕ → Bool) (s : List ℕ) (none : byte_digits s ≡ []) where
   runs-digit : (d : ℕ) (ds run rest : List ℕ) → d < 10 → runs run (separated is_due s (d ∷ ds) ++ rest)
       ≡ run ∷ runs (if is_due (length ds) then s else []) (separated is_due s ds ++ rest)
   unfolding runs
@@ -230,7 +230,7 @@ module _ (P : List ℕ → Type 0) (is_due : ℕ → Bool) (s : List ℕ) (none 
       let digit = is_ascii_digit-digit d small in
       rw digit (ap (λ r. run ∷ r) (
       ap (runs []) (append_assoc first (separated is_due s ds) rest)
-      ∙ runs-other first [] (separated is_due s ds ++ rest) (of_either (λ xs. byte_figures xs ≡ []) refl (is_due (length ds)) s none)))
+      ∙ runs-other first [] (separated is_due s ds ++ rest) (of_either (λ xs. byte_digits xs ≡ []) refl (is_due (length ds)) s none)))
 
   runs-separated : (ds run : List ℕ) → AreDigits ds → P run → P [] → P s → AllByRecursion P (runs run (separated is_due s ds ++ []))
   unfolding runs
@@ -243,7 +243,7 @@ module _ (P : List ℕ → Type 0) (is_due : ℕ → Bool) (s : List ℕ) (none 
       )
 
   -- and so is a mark that follows such digits
-  runs-mark : (mark ds es run : List ℕ) → is_due 0 ≡ false → byte_figures mark ≡ [] → AreDigits ds → AreDigits es → 0 < length ds
+  runs-mark : (mark ds es run : List ℕ) → is_due 0 ≡ false → byte_digits mark ≡ [] → AreDigits ds → AreDigits es → 0 < length ds
       → AllByRecursion P (runs run (separated is_due s ds ++ (mark ++ plain es))) → P mark
   unfolding runs
   runs-mark mark [] es run last plain_mark below digit some all = absurd (omega arith)
@@ -298,9 +298,9 @@ none_at_zero f t b n k p apart some whole parts =
 
 -- and has one scale at most
 pub one_scale : (f : FormatData) (t : List ℕ) (z : ℤ) (j k : ℕ) → IsPlainFormat f → (f.grouping ≡ Posix) ⊎ (¬ (f.decimal ≡ f.separator))
-    → SpellsDecimal f t (fixed_point z j) → SpellsDecimal f t (fixed_point z k) → j ≡ k
-one_scale f t z j k p apart first second = pick j k (signed-spelled f t (fixed_point z j) first)
-    (signed-spelled f t (fixed_point z k) second)
+    → IsCanonicalDecimal f t (fixed_point z j) → IsCanonicalDecimal f t (fixed_point z k) → j ≡ k
+one_scale f t z j k p apart first second = pick j k (signed-canonical f t (fixed_point z j) first)
+    (signed-canonical f t (fixed_point z k) second)
   where
     pick : (j k : ℕ) → IsSigned f t (is_negative z) (unsigned_abs z) j → IsSigned f t (is_negative z) (unsigned_abs z) k → j ≡ k
     pick zero zero a b = refl
@@ -308,11 +308,11 @@ one_scale f t z j k p apart first second = pick j k (signed-spelled f t (fixed_p
     pick (suc j) zero a b = absurd (none_at_zero f t _ _ (suc j) p apart (omega arith) b a)
     pick (suc j) (suc k) a b = sym (tail-signed f t _ _ (suc j) p (omega arith) a) ∙ tail-signed f t _ _ (suc k) p (omega arith) b
 
--- and spells one decimal at most
-pub spelled_once : (f : FormatData) (t : List ℕ) (a b : FixedPoint) → IsPlainFormat f → (f.grouping ≡ Posix) ⊎ (¬ (f.decimal ≡ f.separator))
-    → SpellsDecimal f t a → SpellsDecimal f t b → a ≡ b
-spelled_once f t a b p apart first second =
-    let units : a.units ≡ b.units = sym (denoted-decimal f t a.units a.scale (tells-spelled_decimal f t a.units a.scale p first))
-    ∙ denoted-decimal f t b.units b.scale (tells-spelled_decimal f t b.units b.scale p second) in
+-- and is canonical for one decimal at most
+pub canonical_once : (f : FormatData) (t : List ℕ) (a b : FixedPoint) → IsPlainFormat f → (f.grouping ≡ Posix) ⊎ (¬ (f.decimal ≡ f.separator))
+    → IsCanonicalDecimal f t a → IsCanonicalDecimal f t b → a ≡ b
+canonical_once f t a b p apart first second =
+    let units : a.units ≡ b.units = sym (denoted-decimal f t a.units a.scale (tells-canonical_decimal f t a.units a.scale p first))
+    ∙ denoted-decimal f t b.units b.scale (tells-canonical_decimal f t b.units b.scale p second) in
     ap (λ z. fixed_point z a.scale) units ∙ ap (fixed_point b.units) (one_scale f t b.units a.scale b.scale p apart
-    (subst (λ z. SpellsDecimal f t (fixed_point z a.scale)) units first) second)
+    (subst (λ z. IsCanonicalDecimal f t (fixed_point z a.scale)) units first) second)

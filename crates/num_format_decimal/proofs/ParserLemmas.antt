@@ -23,35 +23,35 @@ use Rattle.num_format_int.specs.Text.{body_of, text_of}
 use Rattle.num_format_int.proofs.DigitLemmas.{digits-small}
 use Rattle.num_format_int.proofs.GroupedLemmas.{grouped-Posix, grouped-short}
 use Rattle.num_format_parsing.specs.Reading.{is_negative_text}
-use Rattle.num_format_parsing.specs.Shapes.{HasPlainSymbols, HasSign, byte_figures}
-use Rattle.num_format_parsing.specs.Strict.{IsUnambiguous, SpellsNumber, begins, unexpected, ungrouped, with_separators, without_separators}
-use Rattle.num_format_parsing.proofs.SpellingLemmas.{body-told, is_negative-pos, signed-abs, signed-sign, sign-behind, unexpected-none}
+use Rattle.num_format_parsing.specs.Shapes.{HasPlainSymbols, HasSign, byte_digits}
+use Rattle.num_format_parsing.specs.Strict.{IsUnambiguous, IsCanonical, begins, unexpected, ungrouped, with_separators, without_separators}
+use Rattle.num_format_parsing.proofs.CanonicalLemmas.{body-told, is_negative-pos, signed-abs, signed-sign, sign-behind, unexpected-none}
 use Rattle.num_format_certificates.proofs.RoundTripLemmas.{round_trips-from_unambiguous}
 use Rattle.num_format_decimal.specs.declared.parser.Fault.{Fault}
-use Rattle.num_format_decimal.specs.declared.parser.Fault.TheVariants.{TooLarge, Unspelled}
+use Rattle.num_format_decimal.specs.declared.parser.Fault.TheVariants.{TooLarge, NotCanonical}
 use Rattle.num_format_decimal.specs.declared.decimal.TheConstants.{MAX_SCALE}
 use Rattle.num_format_decimal.specs.FixedPoint.{FixedPoint, fixed_point}
 use Rattle.num_format_decimal.specs.Marks.{IsMark, IsPlainFormat, MarksDecimals}
-use Rattle.num_format_decimal.specs.Parsing.{IsDecimalOutOfRange, ParsesDecimal, SpellsDecimal}
+use Rattle.num_format_decimal.specs.Parsing.{IsDecimalOutOfRange, ParsesDecimal, IsCanonicalDecimal}
 use Rattle.num_format_decimal.specs.Shapes.{HasAmount, HasReading, IsAmount, IsCut, IsSigned, tail_digits}
 use Rattle.num_format_decimal.specs.Text.{mark_at}
 use Rattle.num_format_decimal.specs.Values.{HasUnits}
-use Rattle.num_format_decimal.proofs.MarkLemmas.{apart-printed, tail-cut, tail-signed, tells-signed, tells-spelled_decimal}
+use Rattle.num_format_decimal.proofs.MarkLemmas.{apart-printed, tail-cut, tail-signed, tells-signed, tells-canonical_decimal}
 use Rattle.num_format_decimal.proofs.ScaleLemmas.{grown}
-use Rattle.num_format_decimal.proofs.SpelledLemmas.{amount-before, ends-read, signed-spelled, spelled-signed}
+use Rattle.num_format_decimal.proofs.CanonicalLemmas.{amount-before, ends-read, signed-canonical, canonical-signed}
 use Rattle.num_format_decimal.proofs.TextLemmas.{length-plain, mark-some}
 
 -- a number is an amount
-pub amount_of : (f : FormatData) (t : List ℕ) (z : ℤ) → SpellsNumber f t z → IsAmount f t (is_negative z) (unsigned_abs z)
+pub amount_of : (f : FormatData) (t : List ℕ) (z : ℤ) → IsCanonical f t z → IsAmount f t (is_negative z) (unsigned_abs z)
 amount_of f t z (with_separators same) = record { grouping = f.grouping; either = inl refl; text = same }
 amount_of f t z (without_separators same) = record { grouping = (ungrouped f).grouping; either = inr refl; text = same }
 
-pub signed_amount : (f : FormatData) (t : List ℕ) (b : Bool) (start n : ℕ) → HasSign f t b start → SpellsNumber f t (signed_number b n)
+pub signed_amount : (f : FormatData) (t : List ℕ) (b : Bool) (start n : ℕ) → HasSign f t b start → IsCanonical f t (signed_number b n)
     → IsAmount f t b n
-signed_amount f t b start n sign spells =
+signed_amount f t b start n sign is_canonical =
     let z = signed_number b n in
-    subst (λ c. IsAmount f t c n) (sym (body-told f t b start z sign spells).sign)
-    (subst (λ j. IsAmount f t (is_negative z) j) (signed-abs b n) (amount_of f t z spells))
+    subst (λ c. IsAmount f t c n) (sym (body-told f t b start z sign is_canonical).sign)
+    (subst (λ j. IsAmount f t (is_negative z) j) (signed-abs b n) (amount_of f t z is_canonical))
 
 pub plain_amount : (f : FormatData) (t : List ℕ) (b : Bool) (start n : ℕ) → HasSign f t b start → drop start t ≡ plain (digits n)
     → IsAmount f t b n
@@ -63,7 +63,7 @@ plain_amount f t b start n sign same = record {
 }
 
 -- and an amount is a number, unless it is zero with a sign
-number_of : (f : FormatData) (t : List ℕ) (b : Bool) (n : ℕ) → (b ≡ true → 0 < n) → IsAmount f t b n → SpellsNumber f t (signed_number b n)
+number_of : (f : FormatData) (t : List ℕ) (b : Bool) (n : ℕ) → (b ≡ true → 0 < n) → IsAmount f t b n → IsCanonical f t (signed_number b n)
 number_of f t b n some amount =
     let sign : List ℕ = if b then f.minus_sign else [] in
     elim amount.either [
@@ -76,23 +76,23 @@ number_of f t b n some amount =
         ap (λ (c : Bool). (if c then f.minus_sign else []) ++ body_of f n) (sym (signed-sign b n some))
         ∙ ap (λ j. (if is_negative (signed_number b n) then f.minus_sign else []) ++ body_of f j) (sym (signed-abs b n))
 
--- a text that spells a decimal without decimals has no unexpected byte
+-- a text that is canonical for a decimal without decimals has no unexpected byte
 negative-some : (z : ℤ) → is_negative z ≡ true → 0 < unsigned_abs z / 10 ^ 0
 negative-some (pos n) wrong = absurd (both_ways _ (is_negative-pos n) wrong)
 negative-some (negsuc n) same = subst (λ k. 0 < k) (sym (div-one (suc n))) (omega arith)
 
-pub expected-whole : (f : FormatData) (t : List ℕ) (d : FixedPoint) → HasPlainSymbols f → d.scale ≡ 0 → SpellsDecimal f t d
+pub expected-whole : (f : FormatData) (t : List ℕ) (d : FixedPoint) → HasPlainSymbols f → d.scale ≡ 0 → IsCanonicalDecimal f t d
     → unexpected f t ≡ []
-expected-whole f t d symbols whole spells =
+expected-whole f t d symbols whole is_canonical =
     let b = is_negative d.units in
     let n = unsigned_abs d.units / 10 ^ 0 in
-    let signed = subst (IsSigned f t b (unsigned_abs d.units)) whole (signed-spelled f t d spells) in
+    let signed = subst (IsSigned f t b (unsigned_abs d.units)) whole (signed-canonical f t d is_canonical) in
     unexpected-none f t (signed_number b n) symbols
     (number_of f t b n (negative-some d.units) (subst (λ x. IsAmount f x b n) (sym (signed.text ∙ append-nil signed.whole)) signed.amount))
 
--- a text that spells no number, and is no zero with a sign, is no amount
+-- a text that is canonical for no number, and is no zero with a sign, is no amount
 pub no_amount : (f : FormatData) (t : List ℕ) (b : Bool) (start : ℕ) → HasSign f t b start → ¬ (drop start t ≡ 48 ∷ [])
-    → ((z : ℤ) → ¬ (SpellsNumber f t z)) → (c : Bool) (n : ℕ) → ¬ (IsAmount f t c n)
+    → ((z : ℤ) → ¬ (IsCanonical f t z)) → (c : Bool) (n : ℕ) → ¬ (IsAmount f t c n)
 no_amount f t b start sign other none false n amount = none (signed_number false n) (number_of f t false n (λ wrong. absurd (cc)) amount)
 no_amount f t b start sign other none true (suc n) amount = none (signed_number true (suc n))
     (number_of f t true (suc n) (λ same. omega arith) amount)
@@ -127,13 +127,13 @@ mark_split mark t place end begin after =
     ∙ ap (λ xs. mark ++ xs) (drop-drop (length mark) place t ∙ ap (λ i. drop i t) after))
 
 -- the mark stands before the decimals that a text has
-module _ (f : FormatData) (t : List ℕ) (d : FixedPoint) (p : IsPlainFormat f) (some : 0 < d.scale) (spells : SpellsDecimal f t d) where
+module _ (f : FormatData) (t : List ℕ) (d : FixedPoint) (p : IsPlainFormat f) (some : 0 < d.scale) (is_canonical : IsCanonicalDecimal f t d) where
   pub scale_counted : d.scale ≡ tail_digits t
-  scale_counted = sym (tail-signed f t (is_negative d.units) (unsigned_abs d.units) d.scale p some (signed-spelled f t d spells))
+  scale_counted = sym (tail-signed f t (is_negative d.units) (unsigned_abs d.units) d.scale p some (signed-canonical f t d is_canonical))
 
   parts : (front : List ℕ) × (ds : List ℕ) × (length ds ≡ d.scale) × (t ≡ front ++ (f.decimal ++ ds))
   parts =
-      let signed = signed-spelled f t d spells in
+      let signed = signed-canonical f t d is_canonical in
       let ds = plain (last_digits d.scale (unsigned_abs d.units)) in (
         signed.whole,
         ds,
@@ -169,7 +169,7 @@ pub record HasParts (f : FormatData) (whole decimals : List ℕ) (negative : Boo
   pub amount : IsAmount f whole negative units
   pub digits : list_all is_ascii_digit decimals ≡ true
   pub few : length decimals ≤ MAX_SCALE
-  pub sum : n ≡ units * 10 ^ length decimals + number_from_digits 10 (byte_figures decimals)
+  pub sum : n ≡ units * 10 ^ length decimals + number_from_digits 10 (byte_digits decimals)
 
 -- a number that is no `i128` is none with decimals, and is not zero
 grows : (b : Bool) (m n : ℕ) → m ≤ n → ¬ (FitsSigned w128 (signed_number b m)) → ¬ (FitsSigned w128 (signed_number b n))
@@ -200,7 +200,7 @@ module _ (f : FormatData) (whole decimals : List ℕ) where
       → d ≡ fixed_point (signed_number b n) (length decimals) → HasUnits d → ParsesDecimal f text d
   parts_read marks b n has some d same fits = record {
     unambiguous = marks;
-    spelled = subst (SpellsDecimal f text) (sym same) (spelled-signed f text b n (length decimals) some (parts_signed b n has));
+    canonical = subst (IsCanonicalDecimal f text) (sym same) (canonical-signed f text b n (length decimals) some (parts_signed b n has));
     bound = omega (arith, ap (λ x. x.scale) same, has.few);
     fits = fits;
   }
@@ -209,16 +209,16 @@ module _ (f : FormatData) (whole decimals : List ℕ) where
       → IsDecimalOutOfRange f text
   parts_large b n has wrong = record {
     decimal = fixed_point (signed_number b n) (length decimals);
-    spelled = spelled-signed f text b n (length decimals) (some_large b n wrong) (parts_signed b n has);
+    canonical = canonical-signed f text b n (length decimals) (some_large b n wrong) (parts_signed b n has);
     bound = has.few;
     wrong = wrong;
   }
 
   -- a sign before nothing but zeros
-  pub parts_zero : (n : ℕ) → HasParts f whole decimals true n → n ≡ 0 → IsPlainFormat f → (d : FixedPoint) → ¬ (SpellsDecimal f text d)
-  parts_zero n has none p d spells =
+  pub parts_zero : (n : ℕ) → HasParts f whole decimals true n → n ≡ 0 → IsPlainFormat f → (d : FixedPoint) → ¬ (IsCanonicalDecimal f text d)
+  parts_zero n has none p d is_canonical =
       let zero_told = tells-signed f p text true n (length decimals) (parts_signed true n has) in
-      let told = tells-spelled_decimal f text d.units d.scale p spells in
+      let told = tells-canonical_decimal f text d.units d.scale p is_canonical in
       nothing_negative d.units (sym told.sign ∙ zero_told.sign) (sym told.magnitude ∙ zero_told.magnitude ∙ none)
     where
       nothing_negative : (z : ℤ) → is_negative z ≡ true → ¬ (unsigned_abs z ≡ 0)
@@ -231,25 +231,25 @@ module _ (f : FormatData) (whole decimals : List ℕ) where
   parts_fault TooLarge digits few large =
       let b = large.0 in
       let m = large.1 in
-      let q = number_from_digits 10 (byte_figures decimals) in
+      let q = number_from_digits 10 (byte_digits decimals) in
       parts_large b (m * 10 ^ length decimals + q) (record { units = m; amount = large.2; digits = digits; few = few; sum = refl })
       (grows b m (m * 10 ^ length decimals + q) (grown m (length decimals) q) large.3)
-  parts_fault Unspelled digits few none = λ d long spells.
+  parts_fault NotCanonical digits few none = λ d long is_canonical.
       let n = unsigned_abs d.units in
-      let signed = subst (IsSigned f text (is_negative d.units) n) long (signed-spelled f text d spells) in
+      let signed = subst (IsSigned f text (is_negative d.units) n) long (signed-canonical f text d is_canonical) in
       none (is_negative d.units) (n / 10 ^ length decimals) (amount-before f whole decimals (is_negative d.units) n
       (length decimals) signed refl)
 
--- where no text with decimals is spelled, what was read is what there is
+-- where no text with decimals is canonical, what was read is what there is
 pub reads_either : (f : FormatData) (t : List ℕ) (r : Result FixedPoint Fault)
-    → ((d : FixedPoint) → 0 < d.scale → d.scale ≤ MAX_SCALE → ¬ (SpellsDecimal f t d)) → HasReading f t (λ scale. scale ≡ 0) r →
+    → ((d : FixedPoint) → 0 < d.scale → d.scale ≤ MAX_SCALE → ¬ (IsCanonicalDecimal f t d)) → HasReading f t (λ scale. scale ≡ 0) r →
     HasReading f t (λ scale. scale ≤ MAX_SCALE) r
 reads_either f t (Ok d) none read = read
 reads_either f t (Err TooLarge) none read = read
-reads_either f t (Err Unspelled) none read = λ d few spells. elim (cases_lt 0 d.scale) [
-  | inl some ↦ none d some few spells
+reads_either f t (Err NotCanonical) none read = λ d few is_canonical. elim (cases_lt 0 d.scale) [
+  | inl some ↦ none d some few is_canonical
   | inr zero_scale
-      ↦ read d (omega (arith, zero_scale)) spells
+      ↦ read d (omega (arith, zero_scale)) is_canonical
 ]
 
 -- where the mark stands, the decimals are the digits after it
@@ -273,9 +273,9 @@ module _ (f : FormatData) (t : List ℕ) (place end : ℕ) (cut : IsCut f.decima
       ≡ length after) r → HasReading f t (λ scale. scale ≡ length after) r
   cut_reads r read = subst (λ x. HasReading f x (λ scale. scale ≡ length after) r) cut_text read
 
-  pub cut_scale : (d : FixedPoint) → IsPlainFormat f → 0 < d.scale → SpellsDecimal f t d → d.scale ≡ length after
-  cut_scale d p some spells =
-      scale_counted f t d p some spells ∙ ap tail_digits cut.text ∙ tail-cut f (take place t) (drop end t) p cut.digits
+  pub cut_scale : (d : FixedPoint) → IsPlainFormat f → 0 < d.scale → IsCanonicalDecimal f t d → d.scale ≡ length after
+  cut_scale d p some is_canonical =
+      scale_counted f t d p some is_canonical ∙ ap tail_digits cut.text ∙ tail-cut f (take place t) (drop end t) p cut.digits
       ∙ sym (ap length (take_rest t end))
 
 -- which formats mark decimals, by their symbols

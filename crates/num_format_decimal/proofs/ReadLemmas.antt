@@ -15,13 +15,13 @@ use Rattle.std.proofs.lemmas.Nat.{pow-add}
 use Rattle.num_format_int.specs.Digits.{digits}
 use Rattle.num_format_int.specs.Groups.{plain}
 use Rattle.num_format_int.proofs.DigitLemmas.{digits-small}
-use Rattle.num_format_parsing.specs.Shapes.{byte_figures}
-use Rattle.num_format_parsing.proofs.FigureLemmas.{begins-at, figures-digit, writes}
+use Rattle.num_format_parsing.specs.Shapes.{byte_digits}
+use Rattle.num_format_parsing.proofs.DigitLemmas.{begins-at, text_digits-digit, writes}
 use Rattle.num_format_parsing.proofs.GroupsLemmas.{plain-all}
 use Rattle.num_format_parsing.proofs.ReadingLemmas.{digits_among-append}
 use Rattle.num_format_decimal.specs.Shapes.{tail_digits}
 use Rattle.num_format_decimal.proofs.MarkLemmas.{tail-all, tail-skip}
-use Rattle.num_format_decimal.proofs.SpelledLemmas.{number-joined}
+use Rattle.num_format_decimal.proofs.CanonicalLemmas.{number-joined}
 
 pub digit_bounds : (b : ℕ) → is_ascii_digit b ≡ true → (48 ≤ b) × (b ≤ 57)
 digit_bounds b digit = (grind (arith, nat_tests, digit), grind (arith, nat_tests, digit))
@@ -29,7 +29,7 @@ digit_bounds b digit = (grind (arith, nat_tests, digit), grind (arith, nat_tests
 -- what was read of a text of digits up to a place: the number that these write
 pub record HasDigits (t : List ℕ) (i n : ℕ) : Type 0 where
   pub all : list_all is_ascii_digit (take i t) ≡ true
-  pub number : n ≡ number_from_digits 10 (byte_figures (take i t))
+  pub number : n ≡ number_from_digits 10 (byte_digits (take i t))
   pub small : n < 10 ^ i
 
 -- and with the next digit
@@ -38,9 +38,9 @@ pub one_more_digit : (t : List ℕ) (i n : ℕ) → i < length t → is_ascii_di
 one_more_digit t i n inside digit before =
     let b = get_or t i 0 in
     let more : take (i + 1) t ≡ take i t ++ (b ∷ []) = take_more t i 0 inside in
-    let one : byte_figures (b ∷ []) ≡ (b - 48) ∷ [] = figures-digit b [] digit in
-    let joined : byte_figures (take (i + 1) t) ≡ byte_figures (take i t) ++ ((b - 48) ∷ []) =
-    ap byte_figures more ∙ digits_among-append (take i t) (b ∷ []) ∙ ap (λ ds. byte_figures (take i t) ++ ds) one in
+    let one : byte_digits (b ∷ []) ≡ (b - 48) ∷ [] = text_digits-digit b [] digit in
+    let joined : byte_digits (take (i + 1) t) ≡ byte_digits (take i t) ++ ((b - 48) ∷ []) =
+    ap byte_digits more ∙ digits_among-append (take i t) (b ∷ []) ∙ ap (λ ds. byte_digits (take i t) ++ ds) one in
     let next : i + 1 ≡ suc i = omega arith in
     let power = ap (λ j. 10 ^ j) next ∙ pow-suc 10 i in
     let turned : 10 * n + (b - 48) ≡ n * 10 + (b - 48) = omega arith in
@@ -50,7 +50,7 @@ one_more_digit t i n inside digit before =
       number =
           turned
           ∙ ap (λ m. m * 10 + (b - 48)) before.number
-          ∙ sym (number_after_append 10 0 (byte_figures (take i t)) ((b - 48) ∷ []))
+          ∙ sym (number_after_append 10 0 (byte_digits (take i t)) ((b - 48) ∷ []))
           ∙ sym (ap (number_from_digits 10) joined);
       small = omega (arith, power, before.small, (digit_bounds b digit).1);
     }
@@ -65,7 +65,7 @@ few_fit t i n d before digit inside few =
 
 -- digits that begin with no zero, and zero alone, are those of their number
 pub plain_read : (t : List ℕ) (n : ℕ) → 0 < length t → list_all is_ascii_digit t ≡ true → (¬ (get_or t 0 0 ≡ 48)) ⊎ (length t ≤ 1)
-    → n ≡ number_from_digits 10 (byte_figures t) → t ≡ plain (digits n)
+    → n ≡ number_from_digits 10 (byte_digits t) → t ≡ plain (digits n)
 plain_read t n some all either number =
     elim (cases_eq (get_or t 0 0) 48) [
       | inr other ↦
@@ -84,15 +84,15 @@ plain_read t n some all either number =
     alone (b ∷ []) some short nought = ap (λ c. c ∷ []) nought
     alone (b ∷ c ∷ t) some short nought = absurd (omega arith)
 
-    zero_read : (t : List ℕ) (n : ℕ) → t ≡ 48 ∷ [] → n ≡ number_from_digits 10 (byte_figures t) → t ≡ plain (digits n)
+    zero_read : (t : List ℕ) (n : ℕ) → t ≡ 48 ∷ [] → n ≡ number_from_digits 10 (byte_digits t) → t ≡ plain (digits n)
     zero_read t n same number =
-        let none : n ≡ 0 = number ∙ ap (λ xs. number_from_digits 10 (byte_figures xs)) same in
+        let none : n ≡ 0 = number ∙ ap (λ xs. number_from_digits 10 (byte_digits xs)) same in
         same ∙ ap plain (sym (digits-small 0 (omega arith))) ∙ ap (λ m. plain (digits m)) (sym none)
 
 -- what reading such a text returns
 pub whole_read : (t : List ℕ) (r : Option ℕ) → 0 < length t → (¬ (get_or t 0 0 ≡ 48)) ⊎ (length t ≤ 1) →
     MatchOption r (list_all is_ascii_digit t ≡ false) (λ n. (list_all is_ascii_digit t ≡ true)
-    × (n ≡ number_from_digits 10 (byte_figures t))) → MatchOption r (¬ (t ≡ 48 ∷ [])) (λ n. t ≡ plain (digits n))
+    × (n ≡ number_from_digits 10 (byte_digits t))) → MatchOption r (¬ (t ≡ 48 ∷ [])) (λ n. t ≡ plain (digits n))
 whole_read t None some either other = λ same. both_ways _ (sym (ap (list_all is_ascii_digit) same) ∙ other) refl
 whole_read t (Some n) some either read = plain_read t n some read.0 either read.1
 
@@ -111,28 +111,28 @@ tail_found t start some within all other =
 
 -- two texts of digits after a number, one after the other
 joined_digits : (m : ℕ) (xs ys : List ℕ) → list_all is_ascii_digit ys ≡ true →
-    (m * 10 ^ length xs + number_from_digits 10 (byte_figures xs)) * 10 ^ length ys + number_from_digits 10 (byte_figures ys)
-    ≡ m * 10 ^ length (xs ++ ys) + number_from_digits 10 (byte_figures (xs ++ ys))
+    (m * 10 ^ length xs + number_from_digits 10 (byte_digits xs)) * 10 ^ length ys + number_from_digits 10 (byte_digits ys)
+    ≡ m * 10 ^ length (xs ++ ys) + number_from_digits 10 (byte_digits (xs ++ ys))
 joined_digits m xs ys all =
     let p = 10 ^ length xs in
     let q = 10 ^ length ys in
-    let long : length (byte_figures ys) ≡ length ys = sym (ap length (plain-all ys all) ∙ length-map (byte_figures ys) (λ d. 48 + d)) in
-    let number : number_from_digits 10 (byte_figures (xs ++ ys)) ≡ number_from_digits 10 (byte_figures xs) * q + number_from_digits 10
-    (byte_figures ys) =
+    let long : length (byte_digits ys) ≡ length ys = sym (ap length (plain-all ys all) ∙ length-map (byte_digits ys) (λ d. 48 + d)) in
+    let number : number_from_digits 10 (byte_digits (xs ++ ys)) ≡ number_from_digits 10 (byte_digits xs) * q + number_from_digits 10
+    (byte_digits ys) =
     ap (number_from_digits 10) (digits_among-append xs ys)
-    ∙ number-joined (byte_figures xs) (byte_figures ys)
-    ∙ ap (λ j. number_from_digits 10 (byte_figures xs) * 10 ^ j + number_from_digits 10 (byte_figures ys)) long in
+    ∙ number-joined (byte_digits xs) (byte_digits ys)
+    ∙ ap (λ j. number_from_digits 10 (byte_digits xs) * 10 ^ j + number_from_digits 10 (byte_digits ys)) long in
     let power : 10 ^ length (xs ++ ys) ≡ p * q = ap (λ j. 10 ^ j) (length-append xs ys) ∙ pow-add 10 (length xs) (length ys) in
     rw (number, power) (omega arith)
 
 pub joined_at : (m n i : ℕ) (t : List ℕ) → list_all is_ascii_digit t ≡ true
-    → n ≡ m * 10 ^ length (take i t) + number_from_digits 10 (byte_figures (take i t)) →
-    n * 10 ^ length (drop i t) + number_from_digits 10 (byte_figures (drop i t))
-    ≡ m * 10 ^ length t + number_from_digits 10 (byte_figures t)
+    → n ≡ m * 10 ^ length (take i t) + number_from_digits 10 (byte_digits (take i t)) →
+    n * 10 ^ length (drop i t) + number_from_digits 10 (byte_digits (drop i t))
+    ≡ m * 10 ^ length t + number_from_digits 10 (byte_digits t)
 joined_at m n i t all sum =
     let ends =
     (and_parts _ _ (sym (list_all-append is_ascii_digit (take i t) (drop i t)) ∙ ap (list_all is_ascii_digit) (take-append-drop i t)
     ∙ all)).1 in
-    ap (λ k. k * 10 ^ length (drop i t) + number_from_digits 10 (byte_figures (drop i t))) sum
+    ap (λ k. k * 10 ^ length (drop i t) + number_from_digits 10 (byte_digits (drop i t))) sum
     ∙ joined_digits m (take i t) (drop i t) ends
-    ∙ ap (λ xs. m * 10 ^ length xs + number_from_digits 10 (byte_figures xs)) (take-append-drop i t)
+    ∙ ap (λ xs. m * 10 ^ length xs + number_from_digits 10 (byte_digits xs)) (take-append-drop i t)

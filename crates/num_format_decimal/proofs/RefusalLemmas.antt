@@ -4,18 +4,18 @@ use Rattle.std.proofs.Common.{IsUtf8}
 use Rattle.std.proofs.lemmas.Bool.{cases_Bool, cases_lt}
 use Rattle.num_format_text.specs.Format.{FormatData}
 use Rattle.num_format_int.specs.Grouped.{printed_separator}
-use Rattle.num_format_parsing.specs.Reading.{figures}
+use Rattle.num_format_parsing.specs.Reading.{text_digits}
 use Rattle.num_format_parsing.specs.Strict.{begins, sign_len, unexpected}
 use Rattle.num_format_parsing.proofs.RefusalLemmas.{unread-place, utf8-or-not}
 use Rattle.num_format_decimal.specs.declared.decimal.TheConstants.{MAX_SCALE}
 use Rattle.num_format_decimal.specs.declared.parser.Fault.{Fault}
-use Rattle.num_format_decimal.specs.declared.parser.Fault.TheVariants.{TooLarge, Unspelled}
+use Rattle.num_format_decimal.specs.declared.parser.Fault.TheVariants.{TooLarge, NotCanonical}
 use Rattle.num_format_decimal.specs.declared.parsing.ParseDecimalError.{ParseDecimalError}
 use Rattle.num_format_decimal.specs.declared.parsing.ParseDecimalError.TheVariants.{NotUtf8, Unexpected, NoDigit, TooManyDecimals}
 use Rattle.num_format_decimal.specs.declared.parsing.ParseDecimalError.TheVariants.{Misspelled, OutOfRange}
 use Rattle.num_format_decimal.specs.FixedPoint.{FixedPoint}
 use Rattle.num_format_decimal.specs.Marks.{MarksDecimals}
-use Rattle.num_format_decimal.specs.Parsing.{IsDecimalCause, IsExpectedDecimal, SpellsDecimal, after_mark, unexpected_in_decimal}
+use Rattle.num_format_decimal.specs.Parsing.{IsDecimalCause, IsExpectedDecimal, IsCanonicalDecimal, after_mark, unexpected_in_decimal}
 use Rattle.num_format_decimal.specs.Shapes.{HasReading}
 use Rattle.num_format_decimal.proofs.CauseLemmas.{expected_of}
 
@@ -37,11 +37,11 @@ unexpected-place f t =
     ]
 
 module _ (f : FormatData) (t : List ℕ) (marks : MarksDecimals f) (none : (d : FixedPoint) → d.scale ≤ MAX_SCALE
-    → ¬ (SpellsDecimal f t d)) where
-  by_digits : IsExpectedDecimal f t → (ds : List ℕ) → figures t ≡ ds → (e : ParseDecimalError) × IsDecimalCause f t e
+    → ¬ (IsCanonicalDecimal f t d)) where
+  by_digits : IsExpectedDecimal f t → (ds : List ℕ) → text_digits t ≡ ds → (e : ParseDecimalError) × IsDecimalCause f t e
   by_digits expected [] empty = (NoDigit, (marks, record { expected = expected; fault = empty }))
   by_digits expected (d ∷ ds) some =
-      let given : ¬ (figures t ≡ []) = λ empty. (let wrong = sym some ∙ empty in cc) in
+      let given : ¬ (text_digits t ≡ []) = λ empty. (let wrong = sym some ∙ empty in cc) in
       elim (cases_lt MAX_SCALE (length (after_mark f t))) [
         | inl many ↦ (TooManyDecimals, (marks, record { expected = expected; fault = (given, many) }))
         | inr few ↦ (Misspelled, (marks, record { expected = expected; fault = (given, omega (arith, few)) }))
@@ -50,12 +50,12 @@ module _ (f : FormatData) (t : List ℕ) (marks : MarksDecimals f) (none : (d : 
   by_place : IsUtf8 t → (at : ℕ) → unexpected_in_decimal f t ≡ drop at t → (e : ParseDecimalError) × IsDecimalCause f t e
   by_place utf8 at rest =
       elim (cases_lt at (length t)) [
-        | inl inside ↦ (Unexpected at, (marks, record { spells_none = record { utf8 = utf8; none = none }; inside = inside; rest = rest }))
-        | inr outside ↦ by_digits (expected_of f t at utf8 none rest (omega (arith, outside))) (figures t) refl
+        | inl inside ↦ (Unexpected at, (marks, record { is_not_canonical = record { utf8 = utf8; none = none }; inside = inside; rest = rest }))
+        | inr outside ↦ by_digits (expected_of f t at utf8 none rest (omega (arith, outside))) (text_digits t) refl
       ]
 
-  unspelled_cause : (e : ParseDecimalError) × IsDecimalCause f t e
-  unspelled_cause =
+  not_canonical_cause : (e : ParseDecimalError) × IsDecimalCause f t e
+  not_canonical_cause =
       elim (utf8-or-not t) [
         | inl utf8 ↦ (let place = unexpected-place f t in by_place utf8 place.0 place.1)
         | inr not ↦ (NotUtf8, (marks, not))
@@ -64,4 +64,4 @@ module _ (f : FormatData) (t : List ℕ) (marks : MarksDecimals f) (none : (d : 
 pub cause-given : (f : FormatData) (t : List ℕ) → MarksDecimals f → (fault : Fault)
     → HasReading f t (λ scale. scale ≤ MAX_SCALE) (Err fault) → (e : ParseDecimalError) × IsDecimalCause f t e
 cause-given f t marks TooLarge large = (OutOfRange, (marks, large))
-cause-given f t marks Unspelled none = unspelled_cause f t marks none
+cause-given f t marks NotCanonical none = not_canonical_cause f t marks none

@@ -11,7 +11,7 @@ use Rattle.std.proofs.lemmas.Bool.Decides.{nat_tests}
 use Rattle.std.proofs.lemmas.Int.{ints, to_z_pos}
 use Rattle.std.proofs.lemmas.Nat.{pow-add}
 use Rattle.num_format_int.specs.Kind.{signed_number}
-use Rattle.num_format_parsing.proofs.SpellingLemmas.{signed_number-unsigned_abs}
+use Rattle.num_format_parsing.proofs.CanonicalLemmas.{signed_number-unsigned_abs}
 use Rattle.num_format_decimal.specs.declared.rounding.Rounding.{Rounding}
 use Rattle.num_format_decimal.specs.declared.rounding.Rounding.TheVariants.{HalfEven, HalfAwayFromZero, TowardZero, Exact}
 use Rattle.num_format_decimal.specs.FixedPoint.{FixedPoint, fixed_point}

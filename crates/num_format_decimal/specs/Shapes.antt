@@ -12,9 +12,9 @@ use Rattle.num_format_int.specs.Grouped.{grouped}
 use Rattle.num_format_int.specs.Kind.{signed_number}
 use Rattle.num_format_decimal.specs.declared.decimal.TheConstants.{MAX_SCALE}
 use Rattle.num_format_decimal.specs.declared.parser.Fault.{Fault}
-use Rattle.num_format_decimal.specs.declared.parser.Fault.TheVariants.{TooLarge, Unspelled}
+use Rattle.num_format_decimal.specs.declared.parser.Fault.TheVariants.{TooLarge, NotCanonical}
 use Rattle.num_format_decimal.specs.FixedPoint.{FixedPoint}
-use Rattle.num_format_decimal.specs.Parsing.{IsDecimalOutOfRange, ParsesDecimal, SpellsDecimal}
+use Rattle.num_format_decimal.specs.Parsing.{IsDecimalOutOfRange, ParsesDecimal, IsCanonicalDecimal}
 use Rattle.num_format_decimal.specs.Text.{decimals_of}
 
 -- how many digits stand at the end of a text
@@ -45,10 +45,10 @@ pub record IsSigned (f : FormatData) (t : List ℕ) (negative : Bool) (n scale :
 abbrev pub HasAmount : FormatData → List ℕ → Result (Bool × ℕ) Fault → Type 0
 HasAmount f t (Ok amount) = IsAmount f t amount.0 amount.1
 HasAmount f t (Err TooLarge) = (negative : Bool) × (n : ℕ) × IsAmount f t negative n × ¬ (FitsSigned w128 (signed_number negative n))
-HasAmount f t (Err Unspelled) = (negative : Bool) (n : ℕ) → ¬ (IsAmount f t negative n)
+HasAmount f t (Err NotCanonical) = (negative : Bool) (n : ℕ) → ¬ (IsAmount f t negative n)
 
 -- what was read of a text as a decimal of such scales
 abbrev pub HasReading : FormatData → List ℕ → (ℕ → Type 0) → Result FixedPoint Fault → Type 0
 HasReading f t among (Ok d) = ParsesDecimal f t d
 HasReading f t among (Err TooLarge) = IsDecimalOutOfRange f t
-HasReading f t among (Err Unspelled) = (d : FixedPoint) → among d.scale → ¬ (SpellsDecimal f t d)
+HasReading f t among (Err NotCanonical) = (d : FixedPoint) → among d.scale → ¬ (IsCanonicalDecimal f t d)

@@ -8,8 +8,8 @@ use num_format_text::Format;
 /// Returns whether every whole number reads back under the format, and the decimal mark cannot be taken for anything
 /// else: it is not empty, no character of it is numeric, and it is not the separator, unless none is printed.
 ///
-/// Then a text spells one decimal at most, and each decimal of each scale, printed under the format, parses as the same
-/// decimal again. Under any other format parsing refuses every text.
+/// Then a text is canonical for one decimal at most, and each decimal of each scale, printed under the format, parses
+/// as the same decimal again. Under any other format parsing refuses every text.
 ///
 /// ```rust
 /// marks_decimals(&Locale::de)                                       // true, as for each locale

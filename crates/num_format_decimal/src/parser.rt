@@ -6,7 +6,7 @@ ghost use Rattle.std.specs.List.{list_all};
 ghost use Rattle.num_format_parsing.specs.Strict.{IsUnambiguous, unexpected};
 ghost use Rattle.num_format_decimal.specs.FixedPoint.{FixedPoint};
 ghost use Rattle.num_format_decimal.specs.Marks.{IsMark, IsPlainFormat, MarksDecimals};
-ghost use Rattle.num_format_decimal.specs.Parsing.{AtScaleResult, DecimalResult, IsDecimalCause, SpellsDecimal};
+ghost use Rattle.num_format_decimal.specs.Parsing.{AtScaleResult, DecimalResult, IsDecimalCause, IsCanonicalDecimal};
 ghost use Rattle.num_format_decimal.specs.Parsing.{after_mark, unexpected_in_decimal};
 ghost use Rattle.num_format_decimal.specs.Shapes.{HasAmount, HasReading, IsCut};
 ghost use Rattle.num_format_decimal.specs.Text.{mark_at};
@@ -54,10 +54,10 @@ impl<'a, F: Format> Model for DecimalParser<'a, F> {
 /// Why no decimal was read.
 #[derive(Clone, Copy)]
 enum Fault {
-    /// The text spells a decimal whose units are no `i128`.
+    /// The text is canonical for a decimal whose units are no `i128`.
     TooLarge,
-    /// The text spells no decimal.
-    Unspelled,
+    /// The text is canonical for no decimal.
+    NotCanonical,
 }
 
 impl<'a, F: Format> DecimalParser<'a, F> {
@@ -110,7 +110,7 @@ impl<'a, F: Format> DecimalParser<'a, F> {
         Ok(DecimalParser { numbers, mark })
     }
 
-    /// Returns the decimal that the text spells: its scale is the number of digits after the mark.
+    /// Returns the decimal for which the text is canonical: its scale is the number of digits after the mark.
     ///
     /// ```rust
     /// DecimalParser::new(&Locale::en)?.parse(".5")    // Err(Misspelled)
@@ -126,7 +126,7 @@ impl<'a, F: Format> DecimalParser<'a, F> {
         self.parse_any(text.as_bytes(), true)
     }
 
-    /// Returns the decimal that the text of these bytes spells.
+    /// Returns the decimal for which the text of these bytes is canonical.
     ///
     /// ```rust
     /// DecimalParser::new(&Locale::en)?.parse_bytes(b"1\xFF")    // Err(NotUtf8)
@@ -142,7 +142,8 @@ impl<'a, F: Format> DecimalParser<'a, F> {
         self.parse_any(bytes, false)
     }
 
-    /// Returns the decimal that the text of these bytes spells, or `None` if they are refused. It looks for no cause.
+    /// Returns the decimal for which the text of these bytes is canonical, or `None` if they are refused. It looks for
+    /// no cause.
     ///
     /// ```rust
     /// let parser = DecimalParser::new(&Locale::en)?;
@@ -161,7 +162,7 @@ impl<'a, F: Format> DecimalParser<'a, F> {
         }
     }
 
-    /// Returns the decimal that the text spells at another scale: the same number, or an error.
+    /// Returns the decimal for which the text is canonical at another scale: the same number, or an error.
     ///
     /// ```rust
     /// DecimalParser::new(&Locale::en)?.parse_at_scale("1,234.5", 2)    // Ok(1234.50)
@@ -176,7 +177,7 @@ impl<'a, F: Format> DecimalParser<'a, F> {
         self.parse_bytes_at_scale(text.as_bytes(), scale)
     }
 
-    /// Returns the decimal that the text of these bytes spells at another scale.
+    /// Returns the decimal for which the text of these bytes is canonical at another scale.
     ///
     /// ```rust
     /// DecimalParser::new(&Locale::en)?.parse_bytes_at_scale(b"1\xFF", 2)    // Err(Parse(NotUtf8))
@@ -201,7 +202,7 @@ impl<'a, F: Format> DecimalParser<'a, F> {
         }
     }
 
-    /// Returns the decimal that the text of the bytes spells, or the first cause for which it is refused.
+    /// Returns the decimal for which the text of the bytes is canonical, or the first cause for which it is refused.
     ///
     /// Where the caller knows that the bytes are UTF-8, that is not tested again.
     #[inline(always)]
@@ -214,7 +215,7 @@ impl<'a, F: Format> DecimalParser<'a, F> {
             Ok(decimal) => Ok(decimal),
             Err(fault) => match fault {
                 Fault::TooLarge => Err(ParseDecimalError::OutOfRange),
-                Fault::Unspelled => Err(self.cause(text, is_text)),
+                Fault::NotCanonical => Err(self.cause(text, is_text)),
             },
         }
     }
@@ -229,10 +230,10 @@ impl<'a, F: Format> DecimalParser<'a, F> {
         self.mark
     }
 
-    /// Returns the decimal that a text spells.
+    /// Returns the decimal for which a text is canonical.
     ///
-    /// The digits at the end are its decimals if the mark stands before them. Where that spells no decimal, the mark
-    /// may be a part of the separator.
+    /// The digits at the end are its decimals if the mark stands before them. Where that is canonical for no decimal,
+    /// the mark may be a part of the separator.
     #[inline(always)]
     fn read(&self, text: &[u8]) -> Result<Decimal, Fault>
         ensures { HasReading self.now text.now (λ scale. scale ≤ MAX_SCALE) result }
@@ -244,9 +245,9 @@ impl<'a, F: Format> DecimalParser<'a, F> {
                 Ok(decimal) => return Ok(decimal),
                 Err(fault) => match fault {
                     Fault::TooLarge => return Err(Fault::TooLarge),
-                    Fault::Unspelled => {
+                    Fault::NotCanonical => {
                         if self.has_unexpected(text) {
-                            return Err(Fault::Unspelled);
+                            return Err(Fault::NotCanonical);
                         }
                     }
                 },
@@ -259,7 +260,7 @@ impl<'a, F: Format> DecimalParser<'a, F> {
     #[cold]
     #[inline(never)]
     fn has_unexpected(&self, text: &[u8]) -> bool
-        ensures { IsTrue result → (d : FixedPoint) → d.scale ≡ 0 → ¬ (SpellsDecimal self.now text.now d) }
+        ensures { IsTrue result → (d : FixedPoint) → d.scale ≡ 0 → ¬ (IsCanonicalDecimal self.now text.now d) }
     {
         let sign = self.numbers.sign(text);
         expected_end(text, sign.len, self.numbers.separator().as_bytes()) < text.len()
@@ -270,7 +271,7 @@ impl<'a, F: Format> DecimalParser<'a, F> {
     #[inline(always)]
     fn mark_place(&self, text: &[u8]) -> Option<(usize, usize)>
         ensures { MatchOption result
-            ((d : FixedPoint) → 0 < d.scale → d.scale ≤ MAX_SCALE → ¬ (SpellsDecimal self.now text.now d))
+            ((d : FixedPoint) → 0 < d.scale → d.scale ≤ MAX_SCALE → ¬ (IsCanonicalDecimal self.now text.now d))
             (λ cut. IsCut self.now.decimal text.now cut.0 cut.1) }
     {
         let mark = self.mark();
@@ -286,7 +287,7 @@ impl<'a, F: Format> DecimalParser<'a, F> {
         Some((place, end))
     }
 
-    /// Returns the decimal that the text before the mark and the decimals after it spell together.
+    /// Returns the decimal that the text before the mark and the decimals after it are canonical for together.
     #[inline(always)]
     fn read_parts(&self, whole: &[u8], decimals: &[u8]) -> Result<Decimal, Fault>
         requires digits { list_all is_ascii_digit decimals.now ≡ true }
@@ -304,7 +305,7 @@ impl<'a, F: Format> DecimalParser<'a, F> {
             return Err(Fault::TooLarge);
         };
         if magnitude == 0 && is_negative {
-            return Err(Fault::Unspelled);
+            return Err(Fault::NotCanonical);
         }
         match Decimal::with_magnitude(is_negative, magnitude, decimals.len() as u8) {
             Some(decimal) => Ok(decimal),
@@ -312,7 +313,7 @@ impl<'a, F: Format> DecimalParser<'a, F> {
         }
     }
 
-    /// Returns the whole number that a text spells.
+    /// Returns the whole number for which a text is canonical.
     #[inline(always)]
     fn read_whole(&self, text: &[u8]) -> Result<Decimal, Fault>
         ensures { HasReading self.now text.now (λ scale. scale ≡ 0) result }
@@ -334,16 +335,17 @@ impl<'a, F: Format> DecimalParser<'a, F> {
         match self.numbers.read::<i128>(text, sign) {
             Reading::Number(magnitude) => Ok((sign.is_negative, magnitude)),
             Reading::TooLarge => Err(Fault::TooLarge),
-            Reading::Unspelled => Err(Fault::Unspelled),
+            Reading::NotCanonical => Err(Fault::NotCanonical),
         }
     }
 
-    /// Returns why a text is refused that spells no decimal. It is inlined, so that a parser stays in registers.
+    /// Returns why a text is refused that is canonical for no decimal. It is inlined, so that a parser stays in
+    /// registers.
     #[cold]
     #[inline(always)]
     fn cause(&self, text: &[u8], is_text: bool) -> ParseDecimalError
         requires utf8 { IsTrue is_text → IsUtf8 text.now }
-        requires unspelled { (d : FixedPoint) → d.scale ≤ MAX_SCALE → ¬ (SpellsDecimal self.now text.now d) }
+        requires not_canonical { (d : FixedPoint) → d.scale ≤ MAX_SCALE → ¬ (IsCanonicalDecimal self.now text.now d) }
         ensures { IsDecimalCause self.now text.now result }
     {
         self.mark();
@@ -400,7 +402,7 @@ fn is_mark(mark: &str, separator: &str) -> bool
 }
 
 impl Decimal {
-    /// Returns the decimal that the text spells: its scale is the number of digits after the mark.
+    /// Returns the decimal for which the text is canonical: its scale is the number of digits after the mark.
     ///
     /// ```rust
     /// Decimal::from_strict_str("1,234.50", &Locale::en)    // Ok(1234.50)
@@ -418,7 +420,8 @@ impl Decimal {
         DecimalParser::new(format)?.parse(text)
     }
 
-    /// Returns the decimal that the text of these bytes spells, as [`from_strict_str`](Decimal::from_strict_str) does.
+    /// Returns the decimal for which the text of these bytes is canonical, as
+    /// [`from_strict_str`](Decimal::from_strict_str) does.
     ///
     /// ```rust
     /// Decimal::from_strict_bytes(b"1\xFF", &Locale::en)    // Err(NotUtf8)
@@ -436,7 +439,7 @@ impl Decimal {
         DecimalParser::new(format)?.parse_bytes(bytes)
     }
 
-    /// Returns the decimal that the text spells at another scale: the same number, or an error.
+    /// Returns the decimal for which the text is canonical at another scale: the same number, or an error.
     ///
     /// For amounts of one currency, however many decimals they are written with.
     ///

@@ -1,6 +1,7 @@
 //! Parsing: a text that is exactly as a decimal is printed, or the cause of its refusal.
 //!
-//! A text *spells* a decimal if it is the text of the decimal under the format, or that text without separators.
+//! A text *is canonical for* a decimal if it is the text of the decimal under the format, or that text without
+//! separators.
 ghost use Rattle.std.specs.Prelude.{Some, ℕ, List, string_bytes};
 ghost use Rattle.num_format_decimal.specs.Parsing.{DecimalResult, at_scale_message_of, parse_message_of};
 
@@ -9,7 +10,8 @@ use crate::error::DecimalError;
 use num_format_text::Format;
 use std::fmt;
 
-/// Why a text was refused as a decimal: the first of these causes. One that spells a decimal is not `Misspelled`.
+/// Why a text was refused as a decimal: the first of these causes. One that is canonical for a decimal is not
+/// `Misspelled`.
 #[derive(Clone, Copy, Debug, PartialEq, Eq, Hash)]
 pub enum ParseDecimalError {
     /// The format is ambiguous, so no text is parsed under it: [`marks_decimals`](crate::marks_decimals) is false.
@@ -30,7 +32,7 @@ pub enum ParseDecimalError {
     /// No byte is unexpected, and the text is not as the number is printed, grouped or not: under `en` these are
     /// `01`, `.5`, `1.`, `1,23.4` and `-0.00`.
     Misspelled,
-    /// The text spells a number whose units are no `i128`.
+    /// The text is canonical for a number whose units are no `i128`.
     OutOfRange,
 }
 
@@ -59,7 +61,7 @@ impl std::error::Error for ParseDecimalError {}
 pub enum ParseAtScaleError {
     /// The text is refused as a decimal.
     Parse(ParseDecimalError),
-    /// The text spells a decimal that cannot be rescaled.
+    /// The text is canonical for a decimal that cannot be rescaled.
     Rescale(DecimalError),
 }
 
@@ -82,7 +84,7 @@ impl std::error::Error for ParseAtScaleError {}
 pub trait ParseDecimal {
     ghost bytes: { Self → List ℕ };
 
-    /// Returns the decimal that the text spells, as [`Decimal::from_strict_str`] does.
+    /// Returns the decimal for which the text is canonical, as [`Decimal::from_strict_str`] does.
     ///
     /// ```rust
     /// "1.234,50".parse_decimal(&Locale::de)     // Ok(1234.50)

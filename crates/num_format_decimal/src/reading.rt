@@ -6,7 +6,7 @@ ghost use Rattle.std.specs.Int.Digits.{number_from_digits};
 ghost use Rattle.std.specs.List.{list_all};
 ghost use Rattle.num_format_int.specs.Digits.{digits};
 ghost use Rattle.num_format_int.specs.Groups.{plain};
-ghost use Rattle.num_format_parsing.specs.Shapes.{byte_figures};
+ghost use Rattle.num_format_parsing.specs.Shapes.{byte_digits};
 ghost use Rattle.num_format_decimal.specs.Shapes.{tail_digits};
 
 use crate::decimal::MAX_SCALE;
@@ -35,7 +35,7 @@ pub(crate) fn whole_number(text: &[u8]) -> Option<u64>
 pub(crate) fn joined(whole: u128, decimals: &[u8]) -> Option<u128>
     requires all { list_all is_ascii_digit decimals.now ≡ true }
     requires few { length decimals.now ≤ MAX_SCALE }
-    ensures { let n = whole * 10 ^ length decimals.now + number_from_digits 10 (byte_figures decimals.now) in
+    ensures { let n = whole * 10 ^ length decimals.now + number_from_digits 10 (byte_digits decimals.now) in
         SomeIff result (n < 2 ^ 128) n }
 {
     if decimals.len() <= SAFE_DIGITS {
@@ -54,7 +54,7 @@ pub(crate) fn joined(whole: u128, decimals: &[u8]) -> Option<u128>
 fn append_digits(n: u128, digits: &[u8]) -> Option<u128>
     requires all { list_all is_ascii_digit digits.now ≡ true }
     requires few { length digits.now ≤ SAFE_DIGITS }
-    ensures { let sum = n * 10 ^ length digits.now + number_from_digits 10 (byte_figures digits.now) in
+    ensures { let sum = n * 10 ^ length digits.now + number_from_digits 10 (byte_digits digits.now) in
         SomeIff result (sum < 2 ^ 128) sum }
 {
     let one = narrow_power_of_ten(digits.len() as u8);
@@ -71,7 +71,7 @@ fn append_digits(n: u128, digits: &[u8]) -> Option<u128>
 fn read_digits(text: &[u8]) -> Option<u64>
     requires { length text.now ≤ SAFE_DIGITS }
     ensures { MatchOption result (list_all is_ascii_digit text.now ≡ false)
-        (λ n. (list_all is_ascii_digit text.now ≡ true) × (n ≡ number_from_digits 10 (byte_figures text.now))) }
+        (λ n. (list_all is_ascii_digit text.now ≡ true) × (n ≡ number_from_digits 10 (byte_digits text.now))) }
 {
     let mut n = 0u64;
     for byte in text {

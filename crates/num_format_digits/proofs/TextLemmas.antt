@@ -13,8 +13,8 @@ use Rattle.std.proofs.lemmas.Str.{chars-encodes, encode_ascii, encodes-chars, in
 use Rattle.num_format_text.specs.Format.{FormatData}
 use Rattle.num_format_parsing.specs.Reading.{is_other_numeral}
 use Rattle.num_format_parsing.specs.Shapes.{HasPlainSymbols}
-use Rattle.num_format_parsing.specs.Strict.{SpellsNumber}
-use Rattle.num_format_parsing.proofs.SpellingLemmas.{no_other-spelled}
+use Rattle.num_format_parsing.specs.Strict.{IsCanonical}
+use Rattle.num_format_parsing.proofs.CanonicalLemmas.{no_other-canonical}
 use Rattle.num_format_digits.specs.Digits.{HasNoOthers, HasOneSet, IsZero, ascii_of, in_digits, is_other, other_from, plain_char, shown}
 use Rattle.num_format_digits.specs.Digits.{shown_byte}
 use Rattle.num_format_digits.proofs.SetLemmas.{digit-scalar, plain-shown, shown-own, shown-plain}
@@ -150,7 +150,7 @@ taken_next z len byte text left rest array before next inside =
     ∙ ap (λ t. t ++ rest) (sym (flat_map-append (shown_byte z) (take len array) (byte ∷ []))
     ∙ ap (in_digits z) (sym (take_more_set array len byte inside)))
 
--- a text that is shown, of which what was shown has no other numeral, or spells a number
+-- a text that is shown, of which what was shown has no other numeral, or is canonical for a number
 pub shown_back : (z : ℕ) (t a : List ℕ) → IsZero z → HasNoOthers a → t ≡ in_digits z a → IsUtf8 t × HasOneSet z t × (ascii_of z t ≡ a)
 shown_back z t a is none same =
     let back = reads_back z a is none.0 none.1 in (
@@ -159,7 +159,7 @@ shown_back z t a is none same =
       ap (ascii_of z) same ∙ back.1,
     )
 
-pub spelled_back : (z : ℕ) (f : FormatData) (t a : List ℕ) (n : ℤ) → IsZero z → HasPlainSymbols f → SpellsNumber f a n → t ≡ in_digits z a
+pub canonical_back : (z : ℕ) (f : FormatData) (t a : List ℕ) (n : ℤ) → IsZero z → HasPlainSymbols f → IsCanonical f a n → t ≡ in_digits z a
     → IsUtf8 t × HasOneSet z t × (ascii_of z t ≡ a)
-spelled_back z f t a n is symbols spells same =
-    let other = no_other-spelled f a n symbols spells in shown_back z t a is (other.utf8, other.plain) same
+canonical_back z f t a n is symbols is_canonical same =
+    let other = no_other-canonical f a n symbols is_canonical in shown_back z t a is (other.utf8, other.plain) same

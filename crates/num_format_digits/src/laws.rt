@@ -1,7 +1,7 @@
 //! Laws of texts in a digit set, for callers' proofs.
 //!
 //! The contract of each function is a law. There is nothing to compute, so the bodies are empty.
-ghost use Rattle.num_format_digits.specs.Laws.{OneSetLaw, ReadsBackLaw, ShownLaw, SpellingLaw};
+ghost use Rattle.num_format_digits.specs.Laws.{OneSetLaw, ReadsBackLaw, ShownLaw, CanonicalLaw};
 
 /// A text in a digit set has the digits of the set where the text has `0` to `9`, and otherwise the same characters.
 pub fn shown_texts()
@@ -21,6 +21,6 @@ pub fn texts_of_one_set()
 
 /// A text is accepted in a set exactly if it is the text of the number, grouped or not, in the digits of the set. So
 /// each number reads back from its text in each set, under any format that is not ambiguous.
-pub fn spelled_texts()
-    ensures { SpellingLaw }
+pub fn canonical_texts()
+    ensures { CanonicalLaw }
 {}

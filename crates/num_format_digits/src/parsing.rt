@@ -38,8 +38,8 @@ pub enum DigitsError<E> {
 }
 
 impl Digits {
-    /// Returns the number that the text spells in the digits of the set: the text with `0` to `9` for them spells it
-    /// under the format.
+    /// Returns the number for which the text is canonical in the digits of the set: the text with `0` to `9` for them
+    /// is canonical for it under the format.
     ///
     /// ```rust
     /// let arab = Digits::of_locale(Locale::ar_EG);
@@ -66,7 +66,7 @@ impl Digits {
         }
     }
 
-    /// Returns the number that bytes spell in the digits of the set, or `None` where only
+    /// Returns the number for which bytes are canonical in the digits of the set, or `None` where only
     /// [`parse_strict`](Digits::parse_strict) can tell, as for a text that is refused.
     ///
     /// It sees the digits of the set and copies all else: what is parsed then shows that the bytes are a text of one
@@ -190,7 +190,7 @@ impl Digits {
         Some((text[0], &text[1..]))
     }
 
-    /// Returns the decimal that the text spells in the digits of the set.
+    /// Returns the decimal for which the text is canonical in the digits of the set.
     ///
     /// ```rust
     /// let arabext = Digits::of_locale(Locale::fa);
@@ -215,8 +215,8 @@ impl Digits {
         }
     }
 
-    /// Returns the decimal that the text spells in the digits of the set at another scale: the same number, or an
-    /// error.
+    /// Returns the decimal for which the text is canonical in the digits of the set at another scale: the same number,
+    /// or an error.
     ///
     /// ```rust
     /// let arabext = Digits::of_locale(Locale::fa);

@@ -1,4 +1,4 @@
--- At most one cause holds of a text, and none of a text that spells a value.
+-- At most one cause holds of a text, and none of a text that is canonical for a value.
 use Rattle.std.proofs.Common.{◌≡◌, ℕ, zero, suc, ◌≤◌, List, length, refl, ap, ◌∙◌, sym, arith, length-drop, subst, ℤ, pos, negsuc}
 use Rattle.std.proofs.Common.{unsigned_abs, Bool, true, false, inl, inr, Ok, Err}
 use Rattle.std.specs.Prelude.{Result, IsTrue, ◌≤ℤ◌}
@@ -11,13 +11,13 @@ use Rattle.num_format_int.specs.Kind.{Kind, IsValueOf, IsWithin, signed_number}
 use Rattle.num_format_int.proofs.DigitLemmas.{digits_given}
 use Rattle.num_format_parsing.specs.Parts.{number_in, HasBody, IsJudged}
 use Rattle.num_format_parsing.specs.Shapes.{HasPlainSymbols}
-use Rattle.num_format_parsing.specs.Strict.{SpellsNumber, StopsAt, IsExpected, IsCause, ParsesStrictly}
+use Rattle.num_format_parsing.specs.Strict.{IsCanonical, StopsAt, IsExpected, IsCause, ParsesStrictly}
 use Rattle.num_format_parsing.specs.declared.reading.Reading.{Reading}
-use Rattle.num_format_parsing.specs.declared.reading.Reading.TheVariants.{Number, TooLarge, Unspelled}
+use Rattle.num_format_parsing.specs.declared.reading.Reading.TheVariants.{Number, TooLarge, NotCanonical}
 use Rattle.num_format_parsing.specs.declared.error.StrictError.{StrictError}
 use Rattle.num_format_parsing.specs.declared.error.StrictError.TheVariants.{AmbiguousFormat, NotUtf8, Unexpected, NoDigit, Misspelled}
 use Rattle.num_format_parsing.specs.declared.error.StrictError.TheVariants.{OutOfRange}
-use Rattle.num_format_parsing.proofs.SpellingLemmas.{figures-spelled, is_negative-pos, no_other-spelled, spelled-once, unexpected-none}
+use Rattle.num_format_parsing.proofs.CanonicalLemmas.{text_digits-canonical, is_negative-pos, no_other-canonical, canonical-once, unexpected-none}
 
 stops-not : (f : FormatData) (t : List ℕ) (a : ℕ) → StopsAt f t a → IsExpected f t → ⊥
 stops-not f t a stops expected = omega (arith, ap length (sym stops.rest ∙ expected.rest), length-drop a t, stops.inside)
@@ -25,26 +25,26 @@ stops-not f t a stops expected = omega (arith, ap length (sym stops.rest ∙ exp
 stops-once : (f : FormatData) (t : List ℕ) (a b : ℕ) → StopsAt f t a → StopsAt f t b → a ≡ b
 stops-once f t a b p q = omega (arith, ap length (sym p.rest ∙ q.rest), length-drop a t, length-drop b t, p.inside, q.inside)
 
--- a text that spells a number is refused for no cause but that it is out of range
-spelled_cause : (k : Kind) (f : FormatData) (t : List ℕ) (z : ℤ) (e : StrictError) → HasPlainSymbols f → SpellsNumber f t z
+-- a text that is canonical for a number is refused for no cause but that it is out of range
+canonical_cause : (k : Kind) (f : FormatData) (t : List ℕ) (z : ℤ) (e : StrictError) → HasPlainSymbols f → IsCanonical f t z
     → IsCause k f t e → (e ≡ OutOfRange) × ¬ (IsValueOf k z)
-spelled_cause k f t z AmbiguousFormat s spells p = absurd (p s.unambiguous)
-spelled_cause k f t z NotUtf8 s spells p = absurd (p.1 ((no_other-spelled f t z s spells).utf8))
-spelled_cause k f t z (Unexpected a) s spells p =
-    absurd (stops-not f t a p.1 (record { utf8 = (no_other-spelled f t z s spells).utf8; rest = unexpected-none f t z s spells }))
-spelled_cause k f t z NoDigit s spells p =
-    absurd (omega (arith, digits_given (unsigned_abs z), ap length (sym (figures-spelled f t z s spells) ∙ p.1.none)))
-spelled_cause k f t z Misspelled s spells p = absurd (p.1.wrong z spells)
-spelled_cause k f t z OutOfRange s spells p =
-    (refl, λ value. p.1.wrong (subst (IsValueOf k) (spelled-once f t z p.1.number s spells p.1.spelled) value))
+canonical_cause k f t z AmbiguousFormat s is_canonical p = absurd (p s.unambiguous)
+canonical_cause k f t z NotUtf8 s is_canonical p = absurd (p.1 ((no_other-canonical f t z s is_canonical).utf8))
+canonical_cause k f t z (Unexpected a) s is_canonical p =
+    absurd (stops-not f t a p.1 (record { utf8 = (no_other-canonical f t z s is_canonical).utf8; rest = unexpected-none f t z s is_canonical }))
+canonical_cause k f t z NoDigit s is_canonical p =
+    absurd (omega (arith, digits_given (unsigned_abs z), ap length (sym (text_digits-canonical f t z s is_canonical) ∙ p.1.none)))
+canonical_cause k f t z Misspelled s is_canonical p = absurd (p.1.wrong z is_canonical)
+canonical_cause k f t z OutOfRange s is_canonical p =
+    (refl, λ value. p.1.wrong (subst (IsValueOf k) (canonical-once f t z p.1.number s is_canonical p.1.canonical) value))
 
 -- two causes of one refusal are the same
 pub only_cause : (k : Kind) (f : FormatData) (t : List ℕ) (d e : StrictError) → HasPlainSymbols f → IsCause k f t d → IsCause k f t e
     → d ≡ e
 only_cause k f t AmbiguousFormat e s p q = absurd (p s.unambiguous)
-only_cause k f t OutOfRange e s p q = sym (spelled_cause k f t p.1.number e s p.1.spelled q).0
+only_cause k f t OutOfRange e s p q = sym (canonical_cause k f t p.1.number e s p.1.canonical q).0
 only_cause k f t d AmbiguousFormat s p q = absurd (q s.unambiguous)
-only_cause k f t d OutOfRange s p q = (spelled_cause k f t q.1.number d s q.1.spelled p).0
+only_cause k f t d OutOfRange s p q = (canonical_cause k f t q.1.number d s q.1.canonical p).0
 only_cause k f t NotUtf8 NotUtf8 s p q = refl
 only_cause k f t NotUtf8 (Unexpected b) s p q = absurd (p.1 q.1.utf8)
 only_cause k f t NotUtf8 e s p q = absurd (p.1 q.1.expected.utf8)
@@ -62,13 +62,13 @@ only_cause k f t Misspelled Misspelled s p q = refl
 pub parses-judged : {X : Type 0} (k : Kind) (value : X → ℤ) (f : FormatData) (t : List ℕ) (r : Result X StrictError) → HasPlainSymbols f
     → IsJudged k value f t r → ParsesStrictly k value f t r
 parses-judged k value f t (Ok n) s judged = record {
-  number = λ z. (λ spells. spelled-once f t z (value n) s spells judged.0, λ same. subst (SpellsNumber f t) (sym same) judged.0);
+  number = λ z. (λ is_canonical. canonical-once f t z (value n) s is_canonical judged.0, λ same. subst (IsCanonical f t) (sym same) judged.0);
   accepted = (λ ok. (s.unambiguous, (value n, judged.0, judged.1)), λ given. refl);
-  refused = λ e. (λ wrong. cc, λ cause. absurd ((spelled_cause k f t (value n) e s judged.0 cause).1 judged.1));
+  refused = λ e. (λ wrong. cc, λ cause. absurd ((canonical_cause k f t (value n) e s judged.0 cause).1 judged.1));
 }
 parses-judged k value f t (Err d) s judged = record {
   number = tt;
-  accepted = (λ wrong. cc, λ given. absurd ((spelled_cause k f t given.1.0 d s given.1.1 judged).1 given.1.2));
+  accepted = (λ wrong. cc, λ given. absurd ((canonical_cause k f t given.1.0 d s given.1.1 judged).1 given.1.2));
   refused = λ e. (
     λ same. let error : d ≡ e = cc in subst (IsCause k f t) error judged,
     λ cause. ap Err (only_cause k f t d e s judged cause),
@@ -106,4 +106,4 @@ pub reading-past : (bound : ℕ) (k : Kind) → IsWithin bound k → (g : Groupi
     HasBody (λ n. (b : Bool) → ¬ (IsValueOf k (signed_number b n))) g s t r
 reading-past bound k within g s t (Number n) read = read
 reading-past bound k within g s t TooLarge read = (read.0, λ b. past-bound bound k b (number_in t) within read.1)
-reading-past bound k within g s t Unspelled read = read
+reading-past bound k within g s t NotCanonical read = read

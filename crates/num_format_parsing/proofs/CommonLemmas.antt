@@ -13,7 +13,7 @@ use Rattle.num_format_text.specs.Format.{FormatData}
 use Rattle.num_format_int.specs.Grouped.{printed_separator}
 use Rattle.num_format_parsing.specs.Reading.{is_other_numeral}
 use Rattle.num_format_parsing.specs.Strict.{HasNoNumeral, IsUnambiguous}
-use Rattle.num_format_parsing.proofs.FigureLemmas.{figures-none}
+use Rattle.num_format_parsing.proofs.DigitLemmas.{text_digits-none}
 use Rattle.num_format_parsing.proofs.ReadingLemmas.{ucd_category}
 
 -- a test that none of the characters passes, none of a text with only these characters passes
@@ -28,7 +28,7 @@ fails_in p characters text none only =
 has_no_numeral : (characters text : List ℕ) → list_any is_ascii_digit characters ≡ false → list_any is_other_numeral characters ≡ false
     → HasOnly characters text → HasNoNumeral text
 has_no_numeral characters text no_digit no_other only = record {
-  no_digit = figures-none (chars text) (fails_in is_ascii_digit characters text no_digit only);
+  no_digit = text_digits-none (chars text) (fails_in is_ascii_digit characters text no_digit only);
   no_other = fails_in is_other_numeral characters text no_other only;
 }
 

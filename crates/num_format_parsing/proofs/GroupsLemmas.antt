@@ -20,24 +20,24 @@ use Rattle.num_format_int.proofs.DigitLemmas.{AreDigits}
 use Rattle.num_format_int.proofs.GroupLemmas.{put-group, put-first_group}
 use Rattle.num_format_int.proofs.GroupedLemmas.{separated-plain}
 use Rattle.num_format_parsing.specs.Parts.{number_in, HasDigits, BeginsWithDigits, BeginsWithGroup, AppendsGroup, AreGroups, IsInGroups}
-use Rattle.num_format_parsing.specs.Shapes.{byte_figures}
+use Rattle.num_format_parsing.specs.Shapes.{byte_digits}
 use Rattle.num_format_parsing.specs.Strict.{begins}
-use Rattle.num_format_parsing.proofs.FigureLemmas.{digit_char, figures-below, figures-digit}
+use Rattle.num_format_parsing.proofs.DigitLemmas.{digit_char, text_digits-below, text_digits-digit}
 use Rattle.num_format_parsing.proofs.NumberLemmas.{number-after}
 use Rattle.num_format_parsing.proofs.ReadingLemmas.{digits_among-append, digits_among-first, is_ascii_digit-digit}
 use Rattle.num_format_parsing.proofs.UnreadLemmas.{begins-split, plain-first}
 
--- bytes that are digits are their figures as text
-pub plain-all : (t : List ℕ) → list_all is_ascii_digit t ≡ true → t ≡ plain (byte_figures t)
+-- bytes that are digits are their own digits as text
+pub plain-all : (t : List ℕ) → list_all is_ascii_digit t ≡ true → t ≡ plain (byte_digits t)
 plain-all [] all = refl
 plain-all (b ∷ t) all =
     let both = and_parts (is_ascii_digit b) (list_all is_ascii_digit t) all in
     ap (λ x. b ∷ x) (plain-all t both.1)
-    ∙ ap (λ c. c ∷ plain (byte_figures t)) (sym (digit_char b both.0))
-    ∙ ap plain (sym (figures-digit b t both.0))
+    ∙ ap (λ c. c ∷ plain (byte_digits t)) (sym (digit_char b both.0))
+    ∙ ap plain (sym (text_digits-digit b t both.0))
 
-pub length-figures : (t : List ℕ) → list_all is_ascii_digit t ≡ true → length (byte_figures t) ≡ length t
-length-figures t all = sym (ap length (plain-all t all) ∙ length-map (byte_figures t) (λ d. 48 + d))
+pub length-digit_count : (t : List ℕ) → list_all is_ascii_digit t ≡ true → length (byte_digits t) ≡ length t
+length-digit_count t all = sym (ap length (plain-all t all) ∙ length-map (byte_digits t) (λ d. 48 + d))
 
 -- digits as text are digits
 all-plain : (ds : List ℕ) → AreDigits ds → list_all is_ascii_digit (plain ds) ≡ true
@@ -45,23 +45,23 @@ all-plain [] below = refl
 all-plain (d ∷ ds) below = rw (is_ascii_digit-digit d (All-head (λ x. x < 10) d ds below))
     (all-plain ds (All-tail (λ x. x < 10) d ds below))
 
-pub not-plain : (t : List ℕ) (count : ℕ) → BeginsWithDigits t count → ¬ (t ≡ plain (byte_figures t))
+pub not-plain : (t : List ℕ) (count : ℕ) → BeginsWithDigits t count → ¬ (t ≡ plain (byte_digits t))
 not-plain t count begins same =
     both_ways _ (list_all_at is_ascii_digit t count 0 begins.inside begins.stop) (ap (list_all is_ascii_digit) same
-    ∙ all-plain (byte_figures t) (figures-below t))
+    ∙ all-plain (byte_digits t) (text_digits-below t))
 
--- the figures of a separator and a group are those of the group
-figures-plain : (ds rest : List ℕ) → AreDigits ds → byte_figures (plain ds ++ rest) ≡ ds ++ byte_figures rest
-figures-plain [] rest below = refl
-figures-plain (d ∷ ds) rest below =
+-- the digits of a separator and a group are those of the group
+text_digits-plain : (ds rest : List ℕ) → AreDigits ds → byte_digits (plain ds ++ rest) ≡ ds ++ byte_digits rest
+text_digits-plain [] rest below = refl
+text_digits-plain (d ∷ ds) rest below =
     digits_among-first d (plain ds ++ rest) (All-head (λ x. x < 10) d ds below)
-    ∙ ap (λ xs. d ∷ xs) (figures-plain ds rest (All-tail (λ x. x < 10) d ds below))
+    ∙ ap (λ xs. d ∷ xs) (text_digits-plain ds rest (All-tail (λ x. x < 10) d ds below))
 
-figures-group : (s : List ℕ) (count : ℕ) (t rest : List ℕ) → byte_figures s ≡ [] → (g : BeginsWithGroup s count t rest)
-    → byte_figures t ≡ g.group ++ byte_figures rest
-figures-group s count t rest none g =
-    ap byte_figures g.same ∙ digits_among-append s (plain g.group ++ rest) ∙ ap (λ xs. xs ++ byte_figures (plain g.group ++ rest)) none
-    ∙ figures-plain g.group rest g.below
+text_digits-group : (s : List ℕ) (count : ℕ) (t rest : List ℕ) → byte_digits s ≡ [] → (g : BeginsWithGroup s count t rest)
+    → byte_digits t ≡ g.group ++ byte_digits rest
+text_digits-group s count t rest none g =
+    ap byte_digits g.same ∙ digits_among-append s (plain g.group ++ rest) ∙ ap (λ xs. xs ++ byte_digits (plain g.group ++ rest)) none
+    ∙ text_digits-plain g.group rest g.below
 
 length-group : (s : List ℕ) (count : ℕ) (t rest : List ℕ) → BeginsWithGroup s count t rest → length t ≡ length s + (count + length rest)
 length-group s count t rest g =
@@ -95,32 +95,32 @@ length-groups last size s (suc count) t (rest, g, groups) = omega (
 )
 
 -- groups with a separator of one byte have so many bytes and digits
-count-groups : (last size : ℕ) (s : List ℕ) (count : ℕ) (t : List ℕ) → length s ≡ 1 → byte_figures s ≡ [] → 0 < size
+count-groups : (last size : ℕ) (s : List ℕ) (count : ℕ) (t : List ℕ) → length s ≡ 1 → byte_digits s ≡ [] → 0 < size
     → AreGroups last size s count t →
-    (length t ≡ length (byte_figures t) + (count + 1)) × (count + last ≤ length (byte_figures t))
-    × (size ≤ 3 → length (byte_figures t) ≤ 3 * count + last)
+    (length t ≡ length (byte_digits t) + (count + 1)) × (count + last ≤ length (byte_digits t))
+    × (size ≤ 3 → length (byte_digits t) ≤ 3 * count + last)
 count-groups last size s zero t one none some g =
-    let digits : length (byte_figures t) ≡ last = ap length (figures-group s last t [] none g ∙ append-nil g.group) ∙ g.long in
+    let digits : length (byte_digits t) ≡ last = ap length (text_digits-group s last t [] none g ∙ append-nil g.group) ∙ g.long in
     (omega (arith, one, digits, length-group s last t [] g), omega (arith, digits), λ few. omega (arith, digits))
 count-groups last size s (suc count) t one none some (rest, g, groups) =
     let more = count-groups last size s count rest one none some groups in
-    let digits = ap length (figures-group s size t rest none g) ∙ length-append g.group (byte_figures rest)
-    ∙ ap (λ k. k + length (byte_figures rest)) g.long in (
+    let digits = ap length (text_digits-group s size t rest none g) ∙ length-append g.group (byte_digits rest)
+    ∙ ap (λ k. k + length (byte_digits rest)) g.long in (
       omega (arith, one, digits, more.0, length-group s size t rest g),
       omega (arith, digits, some, more.1),
       λ few. omega (arith, digits, few, more.2 few),
     )
 
 -- so a text in such groups that is longer than the fewest digits that have a separator has as many, and a short one has few
-pub count-figures : (last size : ℕ) (s t : List ℕ) → length s ≡ 1 → byte_figures s ≡ [] → 0 < size → 3 ≤ last → IsInGroups last size s t →
-    ((least : ℕ) → least ≤ 5 → least < length t → least ≤ length (byte_figures t))
-    × (last ≤ 3 → size ≤ 3 → (length t ≤ 25 → length (byte_figures t) ≤ 19) × (length (byte_figures t) + length t / 4 ≤ length t))
-count-figures last size s t one none some long whole =
+pub count-digits : (last size : ℕ) (s t : List ℕ) → length s ≡ 1 → byte_digits s ≡ [] → 0 < size → 3 ≤ last → IsInGroups last size s t →
+    ((least : ℕ) → least ≤ 5 → least < length t → least ≤ length (byte_digits t))
+    × (last ≤ 3 → size ≤ 3 → (length t ≤ 25 → length (byte_digits t) ≤ 19) × (length (byte_digits t) + length t / 4 ≤ length t))
+count-digits last size s t one none some long whole =
     let counts = count-groups last size s whole.count whole.rest one none some whole.groups in
     let bytes = ap length whole.same ∙ length-append (plain whole.first) whole.rest
     ∙ ap (λ k. k + length whole.rest) (length-map whole.first (λ d. 48 + d)) in
-    let digits = ap length (ap byte_figures whole.same ∙ figures-plain whole.first whole.rest whole.below)
-    ∙ length-append whole.first (byte_figures whole.rest) in (
+    let digits = ap length (ap byte_digits whole.same ∙ text_digits-plain whole.first whole.rest whole.below)
+    ∙ length-append whole.first (byte_digits whole.rest) in (
       λ least few longer. omega (arith, bytes, digits, counts.0, counts.1, whole.some, few, longer, long),
       λ three few. (
         λ short. omega (arith, bytes, digits, counts.0, counts.2 few, whole.few, few, short, three),
@@ -130,32 +130,32 @@ count-figures last size s t one none some long whole =
 
 -- groups are digits with their separators, of which one is due before them
 groups-due : (is_due : ℕ → Bool) (last size : ℕ) (s : List ℕ) (count : ℕ) (t : List ℕ) → HasLastGroup is_due last → HasGroups is_due size
-    → 0 < size → byte_figures s ≡ [] →
-    AreGroups last size s count t → BeginsWithSeparator is_due s (byte_figures t) t
+    → 0 < size → byte_digits s ≡ [] →
+    AreGroups last size s count t → BeginsWithSeparator is_due s (byte_digits t) t
 groups-due is_due last size s zero t last_group groups some none g =
-    let figures : byte_figures t ≡ g.group = figures-group s last t [] none g ∙ append-nil g.group in
+    let digit_count : byte_digits t ≡ g.group = text_digits-group s last t [] none g ∙ append-nil g.group in
     record {
-      due = ap is_due (ap length figures ∙ g.long) ∙ last_group.before;
+      due = ap is_due (ap length digit_count ∙ g.long) ∙ last_group.before;
       same =
           g.same
           ∙ ap (λ xs. s ++ xs) (append-nil (plain g.group) ∙ sym (separated-plain is_due s g.group
-          (λ k below. last_group.within k (omega (arith, below, g.long)))) ∙ ap (separated is_due s) (sym figures));
+          (λ k below. last_group.within k (omega (arith, below, g.long)))) ∙ ap (separated is_due s) (sym digit_count));
     }
 groups-due is_due last size s (suc count) t last_group groups some none (rest, g, more) =
-    let figures : byte_figures t ≡ g.group ++ byte_figures rest = figures-group s size t rest none g in
-    let here = put-group is_due s g.group (byte_figures rest) rest size groups some g.long
+    let digit_count : byte_digits t ≡ g.group ++ byte_digits rest = text_digits-group s size t rest none g in
+    let here = put-group is_due s g.group (byte_digits rest) rest size groups some g.long
     (groups-due is_due last size s count rest last_group groups some none more) in
-    subst (λ ds. BeginsWithSeparator is_due s ds t) (sym figures) (subst
-    (λ x. BeginsWithSeparator is_due s (g.group ++ byte_figures rest) x) (sym g.same) here)
+    subst (λ ds. BeginsWithSeparator is_due s ds t) (sym digit_count) (subst
+    (λ x. BeginsWithSeparator is_due s (g.group ++ byte_digits rest) x) (sym g.same) here)
 
 pub separated-groups : (is_due : ℕ → Bool) (last size : ℕ) (s t : List ℕ) → HasLastGroup is_due last → HasGroups is_due size → 0 < size
-    → byte_figures s ≡ [] →
-    IsInGroups last size s t → t ≡ separated is_due s (byte_figures t)
+    → byte_digits s ≡ [] →
+    IsInGroups last size s t → t ≡ separated is_due s (byte_digits t)
 separated-groups is_due last size s t last_group groups some none whole =
     whole.same
-    ∙ put-first_group is_due s whole.first (byte_figures whole.rest) whole.rest size groups whole.some whole.few
+    ∙ put-first_group is_due s whole.first (byte_digits whole.rest) whole.rest size groups whole.some whole.few
     (groups-due is_due last size s whole.count whole.rest last_group groups some none whole.groups)
-    ∙ ap (separated is_due s) (sym (ap byte_figures whole.same ∙ figures-plain whole.first whole.rest whole.below))
+    ∙ ap (separated is_due s) (sym (ap byte_digits whole.same ∙ text_digits-plain whole.first whole.rest whole.below))
 
 -- digits with their separators: those before the first separator, and groups after them
 record Splits (is_due : ℕ → Bool) (last size : ℕ) (s ds : List ℕ) : Type 0 where
@@ -300,47 +300,47 @@ same-run first rest count below other begins = run first rest count below other 
         ap suc (run first rest count (All-tail (λ x. x < 10) d first below) other (omega (arith, inside))
         (and_parts (is_ascii_digit (48 + d)) (list_all is_ascii_digit (take count (plain first ++ rest))) all).1 stop)
 
-group-first : (s : List ℕ) (count : ℕ) (t rest : List ℕ) → 0 < length s → byte_figures s ≡ [] → BeginsWithGroup s count t rest
+group-first : (s : List ℕ) (count : ℕ) (t rest : List ℕ) → 0 < length s → byte_digits s ≡ [] → BeginsWithGroup s count t rest
     → is_ascii_digit (get_or t 0 0) ≡ false
 group-first [] count t rest some none g = absurd (omega (arith, some))
 group-first (c ∷ s) count t rest some none g = ap (λ xs. is_ascii_digit (get_or xs 0 0)) g.same ∙ plain-first c s none
 
-groups-first : (last size : ℕ) (s : List ℕ) (count : ℕ) (t : List ℕ) → 0 < length s → byte_figures s ≡ [] → AreGroups last size s count t
+groups-first : (last size : ℕ) (s : List ℕ) (count : ℕ) (t : List ℕ) → 0 < length s → byte_digits s ≡ [] → AreGroups last size s count t
     → is_ascii_digit (get_or t 0 0) ≡ false
 groups-first last size s zero t some none g = group-first s last t [] some none g
 groups-first last size s (suc count) t some none (rest, g, groups) = group-first s size t rest some none g
 
-pub first-long : (last size : ℕ) (s t : List ℕ) (count : ℕ) → 0 < length s → byte_figures s ≡ [] → BeginsWithDigits t count
+pub first-long : (last size : ℕ) (s t : List ℕ) (count : ℕ) → 0 < length s → byte_digits s ≡ [] → BeginsWithDigits t count
     → (whole : IsInGroups last size s t) → length whole.first ≡ count
 first-long last size s t count some none begins whole =
     same-run whole.first whole.rest count whole.below (groups-first last size s whole.count whole.rest some none whole.groups)
     (subst (λ x. BeginsWithDigits x count) whole.same begins)
 
 -- digits after others, modulo a bound
-pub digits-appended : (bound : ℕ) (front s group : List ℕ) (count n more : ℕ) → byte_figures s ≡ [] → AreDigits group
+pub digits-appended : (bound : ℕ) (front s group : List ℕ) (count n more : ℕ) → byte_digits s ≡ [] → AreDigits group
     → HasDigits bound front count n →
     more ≡ (n * 10 ^ length group + number_from_digits 10 group) % bound
     → HasDigits bound (front ++ (s ++ plain group)) (count + length group) more
 digits-appended bound front s group count n more none below before same =
     let power = 10 ^ length group in
     let value = number_from_digits 10 group in
-    let figures : byte_figures (front ++ (s ++ plain group)) ≡ byte_figures front ++ group =
+    let digit_count : byte_digits (front ++ (s ++ plain group)) ≡ byte_digits front ++ group =
     digits_among-append front (s ++ plain group)
-    ∙ ap (λ xs. byte_figures front ++ xs) (figures-group s (length group) (s ++ plain group) [] none (record {
+    ∙ ap (λ xs. byte_digits front ++ xs) (text_digits-group s (length group) (s ++ plain group) [] none (record {
       group = group;
       below = below;
       long = refl;
       same = ap (λ xs. s ++ xs) (sym (append-nil (plain group)));
     }) ∙ append-nil group) in
     record {
-      figures = omega (arith, ap length figures, length-append (byte_figures front) group, before.figures);
+      digit_count = omega (arith, ap length digit_count, length-append (byte_digits front) group, before.digit_count);
       number =
           same
           ∙ ap (λ m. (m * power + value) % bound) before.number
           ∙ sym (mod-add-mod (number_in front % bound * power) bound value)
           ∙ ap (λ m. (m + value) % bound) (mul-mod_first (number_in front) power bound)
           ∙ mod-add-mod (number_in front * power) bound value
-          ∙ ap (λ m. m % bound) (sym (ap (number_from_digits 10) figures ∙ number_after_append 10 0 (byte_figures front) group
+          ∙ ap (λ m. m % bound) (sym (ap (number_from_digits 10) digit_count ∙ number_after_append 10 0 (byte_digits front) group
           ∙ number-after (number_in front) group));
     }
 
@@ -375,14 +375,14 @@ appends-group bound s behind count t n power group more same begin room digits v
     (omega (arith, room, ap length same, length-drop (length s) t)) in
     record {
       found = record {
-        group = byte_figures (take count behind);
-        below = figures-below (take count behind);
-        long = length-figures (take count behind) digits ∙ long;
+        group = byte_digits (take count behind);
+        below = text_digits-below (take count behind);
+        long = length-digit_count (take count behind) digits ∙ long;
         same =
             begins-split s t begin
             ∙ ap (λ xs. s ++ xs) (sym same ∙ sym (take-append-drop count behind)
             ∙ ap (λ xs. xs ++ drop count behind) (plain-all (take count behind) digits)
-            ∙ ap (λ xs. plain (byte_figures (take count behind)) ++ xs) (ap (drop count) same ∙ drop-drop count (length s) t));
+            ∙ ap (λ xs. plain (byte_digits (take count behind)) ++ xs) (ap (drop count) same ∙ drop-drop count (length s) t));
       };
       number = appends ∙ ap (λ k. (n * k + group) % bound) (tens ∙ ap (λ k. 10 ^ k) long) ∙ ap (λ k. (n * 10 ^ count + k) % bound) value;
     }
@@ -404,7 +404,7 @@ read-first bound t count n within digits = record {
 }
 
 -- and a group more
-pub read-more : (bound : ℕ) (s : List ℕ) (size : ℕ) (t rest : List ℕ) (count n more : ℕ) → byte_figures s ≡ []
+pub read-more : (bound : ℕ) (s : List ℕ) (size : ℕ) (t rest : List ℕ) (count n more : ℕ) → byte_digits s ≡ []
     → IsReadTo bound t rest count n → AppendsGroup bound s size rest n more →
     IsReadTo bound t (drop (length s + size) rest) (count + size) more
 read-more bound s size t rest count n more none read appends =
@@ -431,11 +431,11 @@ read-all bound t rest count n none read =
 abbrev pub IsLeft : (last size : ℕ) (s t rest : List ℕ) → Type 0
 IsLeft last size s t rest = IsInGroups last size s t ↔ ((k : ℕ) × AreGroups last size s k rest)
 
-pub left-first : (last size : ℕ) (s t : List ℕ) (count : ℕ) → 0 < length s → byte_figures s ≡ [] → BeginsWithDigits t count → count ≤ size
+pub left-first : (last size : ℕ) (s t : List ℕ) (count : ℕ) → 0 < length s → byte_digits s ≡ [] → BeginsWithDigits t count → count ≤ size
     → IsLeft last size s t (drop count t)
 left-first last size s t count some none begins few =
     let front = take count t in
-    let long : length (byte_figures front) ≡ count = length-figures front begins.digits
+    let long : length (byte_digits front) ≡ count = length-digit_count front begins.digits
     ∙ length-take-le count t (omega (arith, begins.inside)) in (
       λ whole.
           let first : length (plain whole.first) ≡ count = length-map whole.first (λ d. 48 + d)
@@ -445,10 +445,10 @@ left-first last size s t count some none begins few =
                 ∙ drop_at (plain whole.first) whole.rest count first)) whole.groups,
           ),
       λ groups. record {
-        first = byte_figures front;
+        first = byte_digits front;
         some = omega (arith, long, begins.some);
         few = omega (arith, long, few);
-        below = figures-below front;
+        below = text_digits-below front;
         rest = drop count t;
         same = sym (take-append-drop count t) ∙ ap (λ xs. xs ++ drop count t) (plain-all front begins.digits);
         count = groups.0;
@@ -491,7 +491,7 @@ module _ (last size : ℕ) (s t rest : List ℕ) (left : IsLeft last size s t re
   lacks-last some long lacks whole = let groups = left.0 whole in lacks
       (last-group last size s groups.0 rest some (omega (arith, long)) groups.1)
 
-  pub read-last : (bound count n more : ℕ) → byte_figures s ≡ [] → length rest ≡ length s + last → IsReadTo bound t rest count n
+  pub read-last : (bound count n more : ℕ) → byte_digits s ≡ [] → length rest ≡ length s + last → IsReadTo bound t rest count n
       → AppendsGroup bound s last rest n more →
       IsInGroups last size s t × HasDigits bound t (count + last) more
   read-last bound count n more none long read appends =

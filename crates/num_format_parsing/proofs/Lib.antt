@@ -1,6 +1,6 @@
 pub mod CauseLemmas
 pub mod CommonLemmas
-pub mod FigureLemmas
+pub mod DigitLemmas
 pub mod GroupingLemmas
 pub mod GroupsLemmas
 pub mod NumberLemmas
@@ -8,7 +8,7 @@ pub mod ReadableLemmas
 mod ReadingExamples
 pub mod ReadingLemmas
 pub mod RefusalLemmas
-pub mod SpellingLemmas
+pub mod CanonicalLemmas
 mod StrictExamples
 pub mod SymbolLemmas
 pub mod ToldLemmas

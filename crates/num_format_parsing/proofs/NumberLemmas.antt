@@ -16,8 +16,8 @@ use Rattle.std.proofs.lemmas.Str.Ascii.{IsAscii-nil, IsAscii-cons}
 use Rattle.num_format_int.proofs.DigitLemmas.{AreDigits}
 use Rattle.num_format_parsing.specs.Parts.{number_in}
 use Rattle.num_format_parsing.specs.Reading.{is_other_numeral}
-use Rattle.num_format_parsing.specs.Shapes.{byte_figures}
-use Rattle.num_format_parsing.proofs.FigureLemmas.{figures-below, figures-digit, figures-other}
+use Rattle.num_format_parsing.specs.Shapes.{byte_digits}
+use Rattle.num_format_parsing.proofs.DigitLemmas.{text_digits-below, text_digits-digit, text_digits-other}
 use Rattle.num_format_parsing.proofs.ReadingLemmas.{digits_among-append, is_other_numeral-ascii}
 
 pub ascii-all : (t : List ℕ) → list_all is_ascii t ≡ true → IsAscii t
@@ -59,31 +59,31 @@ one-byte (b ∷ []) one = refl
 one-byte (b ∷ c ∷ s) one = absurd (omega arith)
 
 -- few digits write a number below the bound
-pub number-few : (bound safe : ℕ) (t : List ℕ) → length (byte_figures t) ≤ safe → 10 ^ safe ≤ bound → number_in t < bound
+pub number-few : (bound safe : ℕ) (t : List ℕ) → length (byte_digits t) ≤ safe → 10 ^ safe ≤ bound → number_in t < bound
 number-few bound safe t few fits =
-    let most : 10 ^ length (byte_figures t) ≤ 10 ^ safe = pow-le-pow_right (lit< tt) {i = length (byte_figures t)} {j = safe} few in
-    omega (arith, number_lt 10 (byte_figures t) (below_base (byte_figures t) (figures-below t)), most, fits)
+    let most : 10 ^ length (byte_digits t) ≤ 10 ^ safe = pow-le-pow_right (lit< tt) {i = length (byte_digits t)} {j = safe} few in
+    omega (arith, number_lt 10 (byte_digits t) (below_base (byte_digits t) (text_digits-below t)), most, fits)
 
 -- the digits of the bytes before a place, one byte on
-pub figures-on-digit : (t : List ℕ) (i : ℕ) → i < length t → is_ascii_digit (get_or t i 0) ≡ true
-    → byte_figures (take (i + 1) t) ≡ byte_figures (take i t) ++ (get_or t i 0 - 48) ∷ []
-figures-on-digit t i inside digit = ap byte_figures (take_more t i 0 inside) ∙ digits_among-append (take i t) (get_or t i 0 ∷ [])
-    ∙ ap (λ ds. byte_figures (take i t) ++ ds) (figures-digit (get_or t i 0) [] digit)
+pub text_digits-on-digit : (t : List ℕ) (i : ℕ) → i < length t → is_ascii_digit (get_or t i 0) ≡ true
+    → byte_digits (take (i + 1) t) ≡ byte_digits (take i t) ++ (get_or t i 0 - 48) ∷ []
+text_digits-on-digit t i inside digit = ap byte_digits (take_more t i 0 inside) ∙ digits_among-append (take i t) (get_or t i 0 ∷ [])
+    ∙ ap (λ ds. byte_digits (take i t) ++ ds) (text_digits-digit (get_or t i 0) [] digit)
 
-pub figures-on-other : (t : List ℕ) (i : ℕ) → i < length t → is_ascii_digit (get_or t i 0) ≡ false
-    → byte_figures (take (i + 1) t) ≡ byte_figures (take i t)
-figures-on-other t i inside other = ap byte_figures (take_more t i 0 inside) ∙ digits_among-append (take i t) (get_or t i 0 ∷ [])
-    ∙ ap (λ ds. byte_figures (take i t) ++ ds) (figures-other (get_or t i 0) [] other) ∙ append-nil (byte_figures (take i t))
+pub text_digits-on-other : (t : List ℕ) (i : ℕ) → i < length t → is_ascii_digit (get_or t i 0) ≡ false
+    → byte_digits (take (i + 1) t) ≡ byte_digits (take i t)
+text_digits-on-other t i inside other = ap byte_digits (take_more t i 0 inside) ∙ digits_among-append (take i t) (get_or t i 0 ∷ [])
+    ∙ ap (λ ds. byte_digits (take i t) ++ ds) (text_digits-other (get_or t i 0) [] other) ∙ append-nil (byte_digits (take i t))
 
 -- and their number
 pub number-digit : (t : List ℕ) (i : ℕ) → i < length t → is_ascii_digit (get_or t i 0) ≡ true
     → number_in (take (i + 1) t) ≡ number_in (take i t) * 10 + (get_or t i 0 - 48)
-number-digit t i inside digit = ap (number_from_digits 10) (figures-on-digit t i inside digit)
-    ∙ number_push 10 (byte_figures (take i t)) (get_or t i 0 - 48)
+number-digit t i inside digit = ap (number_from_digits 10) (text_digits-on-digit t i inside digit)
+    ∙ number_push 10 (byte_digits (take i t)) (get_or t i 0 - 48)
 
 -- and at most that of all
 pub number-before : (t : List ℕ) (i : ℕ) → number_in (take i t) ≤ number_in t
 number-before t i =
     let whole = ap number_in (sym (take-append-drop i t)) ∙ ap (number_from_digits 10) (digits_among-append (take i t) (drop i t))
-    ∙ number_after_append 10 0 (byte_figures (take i t)) (byte_figures (drop i t)) in
-    omega (arith, number_after_ge 10 (number_in (take i t)) (byte_figures (drop i t)) (lit< tt), whole)
+    ∙ number_after_append 10 0 (byte_digits (take i t)) (byte_digits (drop i t)) in
+    omega (arith, number_after_ge 10 (number_in (take i t)) (byte_digits (drop i t)) (lit< tt), whole)

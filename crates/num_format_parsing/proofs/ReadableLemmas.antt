@@ -8,7 +8,7 @@ use Rattle.std.proofs.lemmas.Bool.{both_ways, false_from_ne_true, le-leb, leb-tr
 use Rattle.std.proofs.lemmas.Int.{ints}
 use Rattle.std.proofs.lemmas.Bool.Decides.{Decides-and, Decides-ltb}
 use Rattle.num_format_int.specs.Kind.{IsValueOf, signed}
-use Rattle.num_format_parsing.specs.Reading.{Refused, denoted, figures, is_negative_text, is_other_numeral}
+use Rattle.num_format_parsing.specs.Reading.{Refused, denoted, text_digits, is_negative_text, is_other_numeral}
 use Rattle.num_format_text.specs.Cut.{cut_text}
 use Rattle.num_format_text.specs.Format.{FormatData}
 use Rattle.num_format_text.specs.Refusal.{ParseNumber, refusal_of}
@@ -30,8 +30,8 @@ value-from_fits (negsuc n) fits = let within = (Decides-ltb n (2 ^ 127)).0 fits
 module _ (format : FormatData) (text : List ℕ) where
   -- the test is the four conditions
   readable-Decides : Decides (is_readable format text)
-      ((0 < length (figures text)) × ((not (list_any is_other_numeral (chars text)) ≡ true)
-      × ((length (figures text) + (if is_negative_text format text then 1 else 0) ≤ 40) × (fits_i128 (denoted format text) ≡ true))))
+      ((0 < length (text_digits text)) × ((not (list_any is_other_numeral (chars text)) ≡ true)
+      × ((length (text_digits text) + (if is_negative_text format text then 1 else 0) ≤ 40) × (fits_i128 (denoted format text) ≡ true))))
   readable-Decides =
       Decides-and _ _ (Decides-ltb 0 _) (Decides-and _ _ (λ yes. yes, λ yes. yes)
       (Decides-and _ _ (λ yes. leb-true _ _ yes, λ few. le-leb _ _ few) (λ yes. yes, λ yes. yes)))
@@ -39,8 +39,8 @@ module _ (format : FormatData) (text : List ℕ) where
   -- a text that is not refused passes the test
   pub readable-from_accepted : ¬ (Refused (signed 127 40) format text) → is_readable format text ≡ true
   readable-from_accepted accepted =
-      let few : 40 < length (figures text) + (if is_negative_text format text then 1 else 0) → ⊥ =
-      λ many. accepted (Refused.too_many_figures many) in
+      let few : 40 < length (text_digits text) + (if is_negative_text format text then 1 else 0) → ⊥ =
+      λ many. accepted (Refused.too_many_digits many) in
       readable-Decides.1 (
         some_first _ (λ none. accepted (Refused.no_digit none)),
         (
@@ -57,7 +57,7 @@ module _ (format : FormatData) (text : List ℕ) where
   unreadable-from_refused (Refused.no_digit none) readable = let some = (readable-Decides.0 readable).0
       in absurd (omega (arith, ap length none))
   unreadable-from_refused (Refused.other_numeral some) readable = both_ways _ (not-true _ (readable-Decides.0 readable).1.0) some
-  unreadable-from_refused (Refused.too_many_figures many) readable = let few = (readable-Decides.0 readable).1.1.0 in omega arith
+  unreadable-from_refused (Refused.too_many_digits many) readable = let few = (readable-Decides.0 readable).1.1.0 in omega arith
   unreadable-from_refused (Refused.no_value none) readable =
       none (record { sign = λ _. refl; value = value-from_fits _ (readable-Decides.0 readable).1.1.1 })
 

@@ -1,4 +1,4 @@
--- A text that spells no number is refused for a cause, which nothing has to compute.
+-- A text that is canonical for no number is refused for a cause, which nothing has to compute.
 use Rattle.std.proofs.Common.{◌≡◌, ℕ, zero, suc, ◌+◌, ◌-◌, ◌⊎◌, inl, inr, ◌&&◌, List, [], ◌∷◌, ℤ, length, drop, drop-drop}
 use Rattle.std.proofs.Common.{refl, ◌∙◌, sym, arith}
 use Rattle.std.specs.Prelude.{IsUtf8, bytes_eq}
@@ -12,9 +12,9 @@ use lib.Utf8.{scalars}
 use Rattle.num_format_text.specs.Format.{FormatData}
 use Rattle.num_format_int.specs.Grouped.{printed_separator}
 use Rattle.num_format_int.specs.Kind.{Kind}
-use Rattle.num_format_parsing.specs.Reading.{figures}
+use Rattle.num_format_parsing.specs.Reading.{text_digits}
 use Rattle.num_format_parsing.specs.Shapes.{HasPlainSymbols}
-use Rattle.num_format_parsing.specs.Strict.{IsCause, IsExpected, SpellsNumber, begins, sign_len, unexpected, unread}
+use Rattle.num_format_parsing.specs.Strict.{IsCause, IsExpected, IsCanonical, begins, sign_len, unexpected, unread}
 use Rattle.num_format_parsing.specs.declared.error.StrictError.{StrictError}
 use Rattle.num_format_parsing.specs.declared.error.StrictError.TheVariants.{NotUtf8, Unexpected, NoDigit, Misspelled}
 
@@ -40,18 +40,18 @@ unread-place s zero (b ∷ t) =
       ]
     ]
 
-module _ (k : Kind) (f : FormatData) (t : List ℕ) (symbols : HasPlainSymbols f) (none : (z : ℤ) → ¬ (SpellsNumber f t z)) where
-  by_digits : IsExpected f t → (ds : List ℕ) → figures t ≡ ds → (e : StrictError) × IsCause k f t e
+module _ (k : Kind) (f : FormatData) (t : List ℕ) (symbols : HasPlainSymbols f) (none : (z : ℤ) → ¬ (IsCanonical f t z)) where
+  by_digits : IsExpected f t → (ds : List ℕ) → text_digits t ≡ ds → (e : StrictError) × IsCause k f t e
   by_digits expected [] empty = (NoDigit, (symbols.unambiguous, record { expected = expected; none = empty }))
   by_digits expected (d ∷ ds) some =
-      let given : ¬ (figures t ≡ []) = λ empty. (let wrong = sym some ∙ empty in cc) in
+      let given : ¬ (text_digits t ≡ []) = λ empty. (let wrong = sym some ∙ empty in cc) in
       (Misspelled, (symbols.unambiguous, record { expected = expected; some = given; wrong = none }))
 
   by_place : IsUtf8 t → (at : ℕ) → unexpected f t ≡ drop at t → (e : StrictError) × IsCause k f t e
   by_place utf8 at rest =
       elim (cases_lt at (length t)) [
         | inl inside ↦ (Unexpected at, (symbols.unambiguous, record { utf8 = utf8; inside = inside; rest = rest }))
-        | inr outside ↦ by_digits (record { utf8 = utf8; rest = rest ∙ drop_all at t (omega (arith, outside)) }) (figures t) refl
+        | inr outside ↦ by_digits (record { utf8 = utf8; rest = rest ∙ drop_all at t (omega (arith, outside)) }) (text_digits t) refl
       ]
 
   pub cause-given : (e : StrictError) × IsCause k f t e

@@ -1,20 +1,20 @@
--- What texts spell, and where they stop, each shown by computing it.
+-- What texts are canonical for, and where they stop, each shown by computing it.
 use Rattle.std.proofs.Common.{◌≡◌, refl, pos, negsuc, []}
 use Rattle.std.specs.Prelude.{codes}
 use Rattle.num_format_text.specs.declared.grouping.Grouping.TheVariants.{Indian, Posix}
 use Rattle.num_format_int.specs.Digits.{digits}
 use Rattle.num_format_text.specs.English.{english}
-use Rattle.num_format_parsing.specs.Strict.{SpellsNumber, with_separators, without_separators, unexpected}
+use Rattle.num_format_parsing.specs.Strict.{IsCanonical, with_separators, without_separators, unexpected}
 
-grouped_number : SpellsNumber english (codes "-1,234") (negsuc 1233)
+grouped_number : IsCanonical english (codes "-1,234") (negsuc 1233)
 unfolding digits
 grouped_number = with_separators refl
 
-plain_number : SpellsNumber english (codes "-1234") (negsuc 1233)
+plain_number : IsCanonical english (codes "-1234") (negsuc 1233)
 unfolding digits
 plain_number = without_separators refl
 
-indian : SpellsNumber (record english { grouping = Indian }) (codes "12,34,567") (pos 1234567)
+indian : IsCanonical (record english { grouping = Indian }) (codes "12,34,567") (pos 1234567)
 unfolding digits
 indian = with_separators refl
 

@@ -11,17 +11,17 @@ use Rattle.num_format_int.specs.Grouped.{printed_separator}
 use Rattle.num_format_parsing.specs.Reading.{is_other_numeral}
 use Rattle.num_format_parsing.specs.Shapes.{HasPlainSymbols}
 use Rattle.num_format_parsing.specs.Strict.{HasNoNumeral, IsUnambiguous}
-use Rattle.num_format_parsing.proofs.FigureLemmas.{figures-bytes, figures-none, figures-some}
+use Rattle.num_format_parsing.proofs.DigitLemmas.{text_digits-bytes, text_digits-none, text_digits-some}
 use Rattle.num_format_parsing.proofs.NumberLemmas.{no_other-bytes, one-byte}
 use Rattle.num_format_parsing.proofs.ReadingLemmas.{ucd_category}
 
 -- a text of bytes that are no digits, and of characters that are no other numerals, has no numeral
 pub no_numeral : (t : List ℕ) → IsUtf8 t → list_any is_ascii_digit t ≡ false → list_any is_other_numeral (chars t) ≡ false → HasNoNumeral t
-no_numeral t utf8 none other = record { no_digit = figures-bytes t utf8 ∙ figures-none t none; no_other = other }
+no_numeral t utf8 none other = record { no_digit = text_digits-bytes t utf8 ∙ text_digits-none t none; no_other = other }
 
 -- and one with a digit has one
 pub some_digit : (t : List ℕ) → IsUtf8 t → list_any is_ascii_digit t ≡ true → ¬ (HasNoNumeral t)
-some_digit t utf8 some plain = figures-some t some (sym (figures-bytes t utf8) ∙ plain.no_digit)
+some_digit t utf8 some plain = text_digits-some t some (sym (text_digits-bytes t utf8) ∙ plain.no_digit)
 
 -- so the tests tell whether a text has a numeral
 pub decided : (t : List ℕ) (b : Bool) → IsUtf8 t → list_any is_ascii_digit t ≡ false → b ≡ list_any is_other_numeral (chars t)
@@ -70,7 +70,7 @@ plain-symbols f plain sign printed = record {
   unambiguous = plain;
   sign_utf8 = sign;
   sign_some = some_first f.minus_sign plain.sign_given;
-  sign = sym (figures-bytes f.minus_sign sign) ∙ plain.sign.no_digit;
+  sign = sym (text_digits-bytes f.minus_sign sign) ∙ plain.sign.no_digit;
   separator_utf8 = printed;
-  separator = sym (figures-bytes (printed_separator f.grouping f.separator) printed) ∙ plain.separator.no_digit;
+  separator = sym (text_digits-bytes (printed_separator f.grouping f.separator) printed) ∙ plain.separator.no_digit;
 }

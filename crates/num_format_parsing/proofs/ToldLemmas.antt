@@ -1,4 +1,4 @@
--- A text that spells a number denotes it, and is accepted.
+-- A text that is canonical for a number denotes it, and is accepted.
 use Rattle.std.proofs.Common.{◌≡◌, ℕ, suc, ◌+◌, ◌^◌, ◌<◌, ◌≤◌, ◌⊎◌, inl, inr, Bool, true, false, List, length, refl, ap, ◌∙◌, sym, arith}
 use Rattle.std.proofs.Common.{subst, ℤ, pos, negsuc, unsigned_abs, Option, Some, None, IsUtf8}
 use Rattle.std.specs.Prelude.{if◌then◌else◌, ◌≤ℤ◌, MatchOption}
@@ -11,35 +11,35 @@ use Rattle.num_format_text.specs.Format.{FormatData}
 use Rattle.num_format_int.specs.Digits.{digits}
 use Rattle.num_format_int.specs.Kind.{Kind, IsSignedValueOf, IsValueOf, longest}
 use Rattle.num_format_int.proofs.DigitLemmas.{digits_given, length-digits-gt, length-digits-le, number_from_digits-digits}
-use Rattle.num_format_parsing.specs.Parts.{IsSpelling}
-use Rattle.num_format_parsing.specs.Reading.{denoted, figures, is_negative_text, is_other_numeral, magnitude_of, signed_number, Refused}
-use Rattle.num_format_parsing.specs.Reading.{no_digit, other_numeral, too_many_figures, no_value, ParsesBytes}
+use Rattle.num_format_parsing.specs.Parts.{IsCanonicalReading}
+use Rattle.num_format_parsing.specs.Reading.{denoted, text_digits, is_negative_text, is_other_numeral, magnitude_of, signed_number, Refused}
+use Rattle.num_format_parsing.specs.Reading.{no_digit, other_numeral, too_many_digits, no_value, ParsesBytes}
 use Rattle.num_format_parsing.specs.Shapes.{HasPlainSymbols}
-use Rattle.num_format_parsing.specs.Strict.{SpellsNumber}
+use Rattle.num_format_parsing.specs.Strict.{IsCanonical}
 use Rattle.num_format_parsing.specs.declared.reading.Reading.TheVariants.{Number, TooLarge}
 use Rattle.num_format_parsing.proofs.CauseLemmas.{above_low, below_high, sign-kind}
-use Rattle.num_format_parsing.proofs.SpellingLemmas.{figures-spelled, is_negative-pos, no_other-spelled, sign-told}
-use Rattle.num_format_parsing.proofs.SpellingLemmas.{signed_number-unsigned_abs, text-spelled}
+use Rattle.num_format_parsing.proofs.CanonicalLemmas.{text_digits-canonical, is_negative-pos, no_other-canonical, sign-told}
+use Rattle.num_format_parsing.proofs.CanonicalLemmas.{signed_number-unsigned_abs, text-canonical}
 
--- a text that tells z: its figures are the digits of z, no other numeral is among them, and it is negative exactly if z is
+-- a text that tells z: its digits are the digits of z, no other numeral is among them, and it is negative exactly if z is
 pub record Tells (f : FormatData) (z : ℤ) (text : List ℕ) : Type 0 where
-  pub figures : figures text ≡ digits (unsigned_abs z)
+  pub digit_count : text_digits text ≡ digits (unsigned_abs z)
   pub plain : list_any is_other_numeral (chars text) ≡ false
   pub sign : is_negative_text f text ≡ is_negative z
 
--- as one does that spells z
-pub tells-spelled : (f : FormatData) (z : ℤ) (text : List ℕ) → HasPlainSymbols f → SpellsNumber f text z → Tells f z text
-tells-spelled f z text symbols spells = record {
-  figures = figures-spelled f text z symbols spells;
-  plain = (no_other-spelled f text z symbols spells).plain;
-  sign = sign-told f text z symbols (text-spelled f text z spells);
+-- as one does that is canonical for z
+pub tells-canonical : (f : FormatData) (z : ℤ) (text : List ℕ) → HasPlainSymbols f → IsCanonical f text z → Tells f z text
+tells-canonical f z text symbols is_canonical = record {
+  digit_count = text_digits-canonical f text z symbols is_canonical;
+  plain = (no_other-canonical f text z symbols is_canonical).plain;
+  sign = sign-told f text z symbols (text-canonical f text z is_canonical);
 }
 
 -- it denotes z
 pub tells-same : (f : FormatData) (z : ℤ) (text : List ℕ) → Tells f z text → denoted f text ≡ z
 tells-same f z text tells =
     ap (λ b. signed_number b (magnitude_of text)) tells.sign
-    ∙ ap (signed_number (is_negative z)) (ap (number_from_digits 10) tells.figures ∙ number_from_digits-digits (unsigned_abs z))
+    ∙ ap (signed_number (is_negative z)) (ap (number_from_digits 10) tells.digit_count ∙ number_from_digits-digits (unsigned_abs z))
     ∙ signed_number-unsigned_abs z
 
 -- a smaller number has no more digits
@@ -58,9 +58,9 @@ pub record AllowsLongest (k : Kind) : Type 0 where
   pub low : k.has_negative ≡ true → unsigned_abs k.high ≤ unsigned_abs k.low
   pub unsigned : k.has_negative ≡ false → pos 0 ≤ℤ k.low
 
-few_figures : (k : Kind) (z : ℤ) → AllowsLongest k → IsValueOf k z → length (digits (unsigned_abs z)) + (if is_negative z then 1 else 0)
+few_digits : (k : Kind) (z : ℤ) → AllowsLongest k → IsValueOf k z → length (digits (unsigned_abs z)) + (if is_negative z then 1 else 0)
     ≤ k.limit
-few_figures k (pos n) allows value =
+few_digits k (pos n) allows value =
     let most = below_high n k.high value.below in
     rw (is_negative-pos n) (elim (cases_Bool k.has_negative) [
       | inl signed ↦ (let limit : k.limit ≡ suc (length (digits (unsigned_abs k.low))) = rw signed at allows.limit
@@ -68,7 +68,7 @@ few_figures k (pos n) allows value =
       | inr unsigned ↦ (let limit : k.limit ≡ length (digits (unsigned_abs k.high)) = rw unsigned at allows.limit
           in omega (arith, limit, length-digits-mono n (unsigned_abs k.high) most))
     ])
-few_figures k (negsuc n) allows value =
+few_digits k (negsuc n) allows value =
     let limit : k.limit ≡ suc (length (digits (unsigned_abs k.low))) =
     rw (sign-kind k (negsuc n) allows.unsigned value refl) at allows.limit in
     omega (arith, limit, length-digits-mono (suc n) (unsigned_abs k.low) (above_low n k.low value.above))
@@ -77,40 +77,40 @@ few_figures k (negsuc n) allows value =
 pub tells-accepted : (k : Kind) (f : FormatData) (z : ℤ) (text : List ℕ) → AllowsLongest k → IsValueOf k z → Tells f z text
     → ¬ (Refused k f text)
 tells-accepted k f z text allows value tells refused =
-    let long = ap length tells.figures in
+    let long = ap length tells.digit_count in
     elim refused [
       | no_digit none ↦ omega (arith, digits_given (unsigned_abs z), long, ap length none)
       | other_numeral some ↦ both_ways _ tells.plain some
-      | too_many_figures many ↦
+      | too_many_digits many ↦
           let sign = ap {B = ℕ} (λ b. if b then 1 else 0) tells.sign in
-          omega (arith, few_figures k z allows value, many, long, sign)
+          omega (arith, few_digits k z allows value, many, long, sign)
       | no_value wrong ↦ wrong (record {
         sign = λ negative. sign-kind k z allows.unsigned value (sym tells.sign ∙ negative);
         value = subst (IsValueOf k) (sym (tells-same f z text tells)) value;
       })
     ]
 
--- so a value made of the sign and the absolute value that a text spells is the number that it denotes
+-- so a value made of the sign and the absolute value for which a text is canonical is the number that it denotes
 pub denotes : {X : Type 0} (k : Kind) (value : X → ℤ) (f : FormatData) (t : List ℕ) (negative : Bool) (n : ℕ) (r : Option X)
-    → AllowsLongest k → IsSpelling k f t negative (Number n) →
+    → AllowsLongest k → IsCanonicalReading k f t negative (Number n) →
     MatchOption r (¬ (IsSignedValueOf k negative n)) (λ x. IsSignedValueOf k negative n × (value x ≡ signed_number negative n)) →
     ParsesBytes k value f t r
-denotes k value f t negative n None allows (symbols, tested, spells) made =
-    let same = tells-same f (signed_number negative n) t (tells-spelled f (signed_number negative n) t symbols spells) in
+denotes k value f t negative n None allows (symbols, tested, is_canonical) made =
+    let same = tells-same f (signed_number negative n) t (tells-canonical f (signed_number negative n) t symbols is_canonical) in
     inr (no_value (λ signed. made (record {
       sign = λ minus. signed.sign (sym tested ∙ minus);
       value = subst (IsValueOf k) same signed.value;
     })))
-denotes k value f t negative n (Some x) allows (symbols, tested, spells) made =
-    let tells = tells-spelled f (signed_number negative n) t symbols spells in (
-      (no_other-spelled f t (signed_number negative n) symbols spells).utf8,
+denotes k value f t negative n (Some x) allows (symbols, tested, is_canonical) made =
+    let tells = tells-canonical f (signed_number negative n) t symbols is_canonical in (
+      (no_other-canonical f t (signed_number negative n) symbols is_canonical).utf8,
       made.1 ∙ sym (tells-same f (signed_number negative n) t tells),
       tells-accepted k f (signed_number negative n) t allows made.0.value tells,
     )
 
--- and a text that spells a number that is no value is refused
-pub refuses-large : (k : Kind) (f : FormatData) (t : List ℕ) (negative : Bool) → IsSpelling k f t negative TooLarge
+-- and a text that is canonical for a number that is no value is refused
+pub refuses-large : (k : Kind) (f : FormatData) (t : List ℕ) (negative : Bool) → IsCanonicalReading k f t negative TooLarge
     → (¬ (IsUtf8 t)) ⊎ Refused k f t
-refuses-large k f t negative (symbols, tested, (n, wrong, spells)) =
-    let same = tells-same f (signed_number negative n) t (tells-spelled f (signed_number negative n) t symbols spells) in
+refuses-large k f t negative (symbols, tested, (n, wrong, is_canonical)) =
+    let same = tells-same f (signed_number negative n) t (tells-canonical f (signed_number negative n) t symbols is_canonical) in
     inr (no_value (λ signed. wrong (subst (IsValueOf k) same signed.value)))

@@ -11,8 +11,8 @@ use Rattle.std.proofs.lemmas.List.Elements.{All-head, All-tail}
 use Rattle.std.proofs.lemmas.Slice.Eq.{starts_is}
 use Rattle.num_format_int.specs.Grouped.{separated}
 use Rattle.num_format_parsing.specs.Strict.{unread, begins}
-use Rattle.num_format_parsing.specs.Shapes.{byte_figures}
-use Rattle.num_format_parsing.proofs.FigureLemmas.{figures-digit}
+use Rattle.num_format_parsing.specs.Shapes.{byte_digits}
+use Rattle.num_format_parsing.proofs.DigitLemmas.{text_digits-digit}
 use Rattle.num_format_parsing.proofs.NumberLemmas.{one-byte}
 use Rattle.num_format_parsing.proofs.ReadingLemmas.{is_ascii_digit-digit}
 
@@ -78,15 +78,15 @@ pub begins-fits : (s t : List ℕ) → begins s t ≡ true → length s ≤ leng
 begins-fits s t begin = omega (arith, ap length (begins-split s t begin), length-append s (drop (length s) t))
 
 -- the first byte of a separator without digits
-pub plain-first : (c : ℕ) (s : List ℕ) → byte_figures (c ∷ s) ≡ [] → is_ascii_digit c ≡ false
+pub plain-first : (c : ℕ) (s : List ℕ) → byte_digits (c ∷ s) ≡ [] → is_ascii_digit c ≡ false
 plain-first c s none =
     elim (cases_Bool (is_ascii_digit c)) [
-      | inl digit ↦ (let wrong = sym (figures-digit c s digit) ∙ none in cc)
+      | inl digit ↦ (let wrong = sym (text_digits-digit c s digit) ∙ none in cc)
       | inr other ↦ other
     ]
 
 -- no such separator begins at a digit
-pub begins-at_digit : (s t : List ℕ) (b : ℕ) → byte_figures s ≡ [] → is_ascii_digit b ≡ true → begins s (b ∷ t) ≡ false
+pub begins-at_digit : (s t : List ℕ) (b : ℕ) → byte_digits s ≡ [] → is_ascii_digit b ≡ true → begins s (b ∷ t) ≡ false
 begins-at_digit [] t b none digit = refl
 begins-at_digit (c ∷ s) t b none digit =
     begins-off (c ∷ s) (b ∷ t) (λ same. both_ways _ (plain-first c s none) (ap is_ascii_digit (sym same) ∙ digit))
@@ -98,7 +98,7 @@ unread-whole (c ∷ s) t =
     ∙ ap (unread (c ∷ s) 0) (drop_at (c ∷ s) t (length (c ∷ s)) refl)
 
 -- digits with such a separator are read to their end
-pub unread-separated : (is_due : ℕ → Bool) (s ds : List ℕ) → byte_figures s ≡ [] → All (λ d. d < 10) ds
+pub unread-separated : (is_due : ℕ → Bool) (s ds : List ℕ) → byte_digits s ≡ [] → All (λ d. d < 10) ds
     → unread s 0 (separated is_due s ds) ≡ []
 unread-separated is_due s [] none below = refl
 unread-separated is_due s (d ∷ ds) none below =

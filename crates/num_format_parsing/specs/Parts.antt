@@ -10,19 +10,19 @@ use Rattle.num_format_int.specs.Grouped.{grouped}
 use Rattle.num_format_int.specs.Groups.{plain}
 use Rattle.num_format_int.specs.Kind.{Kind, IsValueOf, signed_number}
 use Rattle.num_format_parsing.specs.Reading.{is_negative_text}
-use Rattle.num_format_parsing.specs.Shapes.{byte_figures, HasPlainSymbols}
-use Rattle.num_format_parsing.specs.Strict.{SpellsNumber, IsCause}
+use Rattle.num_format_parsing.specs.Shapes.{byte_digits, HasPlainSymbols}
+use Rattle.num_format_parsing.specs.Strict.{IsCanonical, IsCause}
 use Rattle.num_format_parsing.specs.declared.reading.Reading.{Reading}
-use Rattle.num_format_parsing.specs.declared.reading.Reading.TheVariants.{Number, TooLarge, Unspelled}
+use Rattle.num_format_parsing.specs.declared.reading.Reading.TheVariants.{Number, TooLarge, NotCanonical}
 use Rattle.num_format_parsing.specs.declared.error.StrictError.{StrictError}
 
 -- the number that the digits among bytes write
 abbrev pub number_in : List ℕ → ℕ
-number_in t = number_from_digits 10 (byte_figures t)
+number_in t = number_from_digits 10 (byte_digits t)
 
 -- the digits among bytes are so many, and write n modulo a bound
 pub record HasDigits (bound : ℕ) (t : List ℕ) (count n : ℕ) : Type 0 where
-  pub figures : count ≡ length (byte_figures t)
+  pub digit_count : count ≡ length (byte_digits t)
   pub number : n ≡ number_in t % bound
 
 -- bytes begin with so many digits, and then with another byte
@@ -34,7 +34,7 @@ pub record BeginsWithDigits (t : List ℕ) (count : ℕ) : Type 0 where
 
 -- bytes are digits, with the separators of a grouping or without any
 abbrev pub IsBody : Grouping → List ℕ → List ℕ → Type 0
-IsBody g s t = (t ≡ grouped g s (byte_figures t)) ⊎ (t ≡ plain (byte_figures t))
+IsBody g s t = (t ≡ grouped g s (byte_digits t)) ⊎ (t ≡ plain (byte_digits t))
 
 -- bytes are a separator, so many digits, and the rest
 pub record BeginsWithGroup (s : List ℕ) (count : ℕ) (t rest : List ℕ) : Type 0 where
@@ -68,19 +68,19 @@ pub record IsInGroups (last size : ℕ) (s t : List ℕ) : Type 0 where
 abbrev pub HasBody : (ℕ → Type 0) → Grouping → List ℕ → List ℕ → Reading → Type 0
 HasBody out g s t (Number n) = IsBody g s t × (n ≡ number_in t)
 HasBody out g s t TooLarge = IsBody g s t × out (number_in t)
-HasBody out g s t Unspelled = ¬ (IsBody g s t)
+HasBody out g s t NotCanonical = ¬ (IsBody g s t)
 
--- what was read of a text whose sign is known: a number that it spells, a value of the kind or not, or none
+-- what was read of a text whose sign is known: a number for which it is canonical, a value of the kind or not, or none
 abbrev pub HasReading : Kind → FormatData → List ℕ → Bool → Reading → Type 0
-HasReading k f t negative (Number n) = SpellsNumber f t (signed_number negative n)
-HasReading k f t negative TooLarge = (n : ℕ) × (¬ (IsValueOf k (signed_number negative n))) × SpellsNumber f t (signed_number negative n)
-HasReading k f t negative Unspelled = (z : ℤ) → ¬ (SpellsNumber f t z)
+HasReading k f t negative (Number n) = IsCanonical f t (signed_number negative n)
+HasReading k f t negative TooLarge = (n : ℕ) × (¬ (IsValueOf k (signed_number negative n))) × IsCanonical f t (signed_number negative n)
+HasReading k f t negative NotCanonical = (z : ℤ) → ¬ (IsCanonical f t z)
 
--- the same of a text whose sign is not known before; where it is said to spell no number, nothing is known of it
-abbrev pub IsSpelling : Kind → FormatData → List ℕ → Bool → Reading → Type 0
-IsSpelling k f t negative Unspelled = ⊤
-IsSpelling k f t negative read = HasPlainSymbols f × (negative ≡ is_negative_text f t) × HasReading k f t negative read
+-- the same of a text whose sign is not known before; where it is said to are canonical for no number, nothing is known of it
+abbrev pub IsCanonicalReading : Kind → FormatData → List ℕ → Bool → Reading → Type 0
+IsCanonicalReading k f t negative NotCanonical = ⊤
+IsCanonicalReading k f t negative read = HasPlainSymbols f × (negative ≡ is_negative_text f t) × HasReading k f t negative read
 
--- what is returned: a number that the text spells and that is a value of the kind, or the cause
+-- what is returned: a number for which the text is canonical and that is a value of the kind, or the cause
 abbrev pub IsJudged : {X : Type 0} → Kind → (X → ℤ) → FormatData → List ℕ → Result X StrictError → Type 0
-IsJudged k value f t result = MatchResult result (λ n. SpellsNumber f t (value n) × IsValueOf k (value n)) (λ e. IsCause k f t e)
+IsJudged k value f t result = MatchResult result (λ n. IsCanonical f t (value n) × IsValueOf k (value n)) (λ e. IsCause k f t e)

@@ -9,14 +9,14 @@ use Rattle.num_format_text.specs.Format.{FormatData}
 use Rattle.num_format_int.specs.Grouped.{printed_separator}
 use Rattle.num_format_int.specs.Kind.{Kind, IsValueOf}
 use Rattle.num_format_int.specs.Text.{text_of}
-use Rattle.num_format_parsing.specs.Reading.{figures, is_negative_text, is_other_numeral}
+use Rattle.num_format_parsing.specs.Reading.{text_digits, is_negative_text, is_other_numeral}
 use Rattle.num_format_parsing.specs.declared.error.StrictError.{StrictError}
 use Rattle.num_format_parsing.specs.declared.error.StrictError.TheVariants.{AmbiguousFormat, NotUtf8, Unexpected, NoDigit, Misspelled}
 use Rattle.num_format_parsing.specs.declared.error.StrictError.TheVariants.{OutOfRange}
 
 -- a text without digits and other numeric characters
 pub record HasNoNumeral (text : List ℕ) : Type 0 where
-  pub no_digit : figures text ≡ []
+  pub no_digit : text_digits text ≡ []
   pub no_other : list_any is_other_numeral (chars text) ≡ false
 
 -- the minus sign is not empty, and neither it nor a printed separator has a digit or another numeric character
@@ -29,10 +29,10 @@ pub record IsUnambiguous (f : FormatData) : Type 0 where
 abbrev pub ungrouped : FormatData → FormatData
 ungrouped f = record f { grouping = Posix }
 
--- a text spells z: it is the text of z, or the text of z without grouping
-pub data SpellsNumber (f : FormatData) (t : List ℕ) (z : ℤ) : Type 0 where
-  with_separators : t ≡ text_of f z → SpellsNumber f t z
-  without_separators : t ≡ text_of (ungrouped f) z → SpellsNumber f t z
+-- a text is canonical for z: it is the text of z, or the text of z without grouping
+pub data IsCanonical (f : FormatData) (t : List ℕ) (z : ℤ) : Type 0 where
+  with_separators : t ≡ text_of f z → IsCanonical f t z
+  without_separators : t ≡ text_of (ungrouped f) z → IsCanonical f t z
 
 -- a text begins with a separator that is not empty
 abbrev pub begins : List ℕ → List ℕ → Bool
@@ -70,18 +70,18 @@ pub record IsExpected (f : FormatData) (t : List ℕ) : Type 0 where
 -- no byte is unexpected, and there is no digit
 pub record LacksDigit (f : FormatData) (t : List ℕ) : Type 0 where
   pub expected : IsExpected f t
-  pub none : figures t ≡ []
+  pub none : text_digits t ≡ []
 
--- no byte is unexpected, there is a digit, and the text spells no number
+-- no byte is unexpected, there is a digit, and the text is canonical for no number
 pub record IsMisspelled (f : FormatData) (t : List ℕ) : Type 0 where
   pub expected : IsExpected f t
-  pub some : ¬ (figures t ≡ [])
-  pub wrong : (z : ℤ) → ¬ (SpellsNumber f t z)
+  pub some : ¬ (text_digits t ≡ [])
+  pub wrong : (z : ℤ) → ¬ (IsCanonical f t z)
 
--- the text spells a number that is no value of the kind
+-- the text is canonical for a number that is no value of the kind
 pub record IsOutOfRange (k : Kind) (f : FormatData) (t : List ℕ) : Type 0 where
   pub number : ℤ
-  pub spelled : SpellsNumber f t number
+  pub canonical : IsCanonical f t number
   pub wrong : ¬ (IsValueOf k number)
 
 -- when a text is refused for a cause
@@ -93,12 +93,12 @@ IsCause k f t NoDigit = IsUnambiguous f × LacksDigit f t
 IsCause k f t Misspelled = IsUnambiguous f × IsMisspelled f t
 IsCause k f t OutOfRange = IsUnambiguous f × IsOutOfRange k f t
 
--- what strict parsing returns of a text as a number of a kind: the one number that the text spells, if the format is not ambiguous and the
--- number is a value of the kind, and else an error exactly if it is the cause
+-- what strict parsing returns of a text as a number of a kind: the one number for which the text is canonical, if the format is not
+-- ambiguous and the number is a value of the kind, and else an error exactly if it is the cause
 pub record ParsesStrictly {X : Type 0} (k : Kind) (value : X → ℤ) (f : FormatData) (t : List ℕ)
     (result : Result X StrictError) : Type 0 where
-  pub number : IfOk result (λ n. (z : ℤ) → SpellsNumber f t z ↔ (z ≡ value n))
-  pub accepted : IsOk result ↔ (IsUnambiguous f × ((z : ℤ) × SpellsNumber f t z × IsValueOf k z))
+  pub number : IfOk result (λ n. (z : ℤ) → IsCanonical f t z ↔ (z ≡ value n))
+  pub accepted : IsOk result ↔ (IsUnambiguous f × ((z : ℤ) × IsCanonical f t z × IsValueOf k z))
   pub refused : (e : StrictError) → (result ≡ Err e) ↔ IsCause k f t e
 
 -- the message of an error

@@ -2,10 +2,10 @@
 ghost use Rattle.std.specs.Prelude.{◌≡◌, ℕ, ◌+◌, ◌*◌, ◌%◌, ◌^◌, ◌<◌, ◌≤◌, MatchOption};
 
 /// So many digits fit 64 bits, whatever they are.
-pub(crate) const SAFE_FIGURES: usize = 19;
+pub(crate) const SAFE_DIGITS: usize = 19;
 
 /// So many digits fit 128 bits, whatever they are.
-const SAFE_WIDE_FIGURES: usize = 38;
+const SAFE_WIDE_DIGITS: usize = 38;
 
 /// An unsigned integer to which digits are appended, one at a time, while it stays below its bound.
 pub(crate) trait Accumulator: Copy {
@@ -20,14 +20,14 @@ pub(crate) trait Accumulator: Copy {
         ensures { number result ≡ 0 };
 
     /// Returns the number with a digit appended to its digits, if that is below the bound.
-    fn push_digit(self, figures: usize, digit: u8) -> Option<Self>
-        requires figures { number self < 10 ^ figures }
+    fn push_digit(self, digit_count: usize, digit: u8) -> Option<Self>
+        requires digit_count { number self < 10 ^ digit_count }
         requires digit { digit < 10 }
         ensures { MatchOption result (bound ≤ number self * 10 + digit)
             (λ longer. number longer ≡ number self * 10 + digit) };
 
     /// Returns the most digits whose number is below the bound, whatever they are.
-    fn safe_figures() -> usize
+    fn safe_digits() -> usize
         ensures value { result ≡ safe }
         ensures below { 10 ^ safe ≤ bound };
 
@@ -56,8 +56,8 @@ impl Accumulator for u64 {
         self.checked_mul(10)?.checked_add(digit as u64)
     }
 
-    fn safe_figures() -> usize {
-        SAFE_FIGURES
+    fn safe_digits() -> usize {
+        SAFE_DIGITS
     }
 
     fn push_group(self, power: u64, group: u64) -> u64 {
@@ -80,15 +80,15 @@ impl Accumulator for u128 {
         0
     }
 
-    fn push_digit(self, figures: usize, digit: u8) -> Option<u128> {
-        if figures < SAFE_WIDE_FIGURES {
+    fn push_digit(self, digit_count: usize, digit: u8) -> Option<u128> {
+        if digit_count < SAFE_WIDE_DIGITS {
             return Some(self * 10 + digit as u128);
         }
         self.checked_mul(10)?.checked_add(digit as u128)
     }
 
-    fn safe_figures() -> usize {
-        SAFE_WIDE_FIGURES
+    fn safe_digits() -> usize {
+        SAFE_WIDE_DIGITS
     }
 
     fn push_group(self, power: u64, group: u64) -> u128 {

@@ -1,22 +1,22 @@
-//! Why a text spells no number: the second pass over it, which finds the place of a fault.
+//! Why a text is canonical for no number: the second pass over it, which finds the place of a fault.
 ghost use Rattle.std.specs.Prelude.{◌≡◌, ℤ, ◌≤◌, IsTrue, drop, length, IsUtf8};
 ghost use Rattle.num_format_text.specs.Format.{FormatData};
 ghost use Rattle.num_format_int.specs.Grouped.{printed_separator};
 ghost use Rattle.num_format_int.specs.Kind.{Kind};
-ghost use Rattle.num_format_parsing.specs.Strict.{SpellsNumber, IsCause, unread, sign_len};
+ghost use Rattle.num_format_parsing.specs.Strict.{IsCanonical, IsCause, unread, sign_len};
 ghost use Rattle.num_format_parsing.specs.Shapes.{HasPlainSymbols};
 
 use crate::bytes::{begins_with, has_digit, is_utf8};
 use crate::error::StrictError;
 
-/// Returns why a text is refused that spells no number. `start` is the length of its minus sign.
+/// Returns why a text is refused that is canonical for no number. `start` is the length of its minus sign.
 #[cold]
 #[inline(never)]
 pub(crate) fn cause(bytes: &[u8], is_text: bool, start: usize, separator: &[u8]) -> StrictError
     requires utf8 { IsTrue is_text → IsUtf8 bytes.now }
     requires start { start ≤ length bytes.now }
     ensures { (f : FormatData) → HasPlainSymbols f → separator.now ≡ printed_separator f.grouping f.separator
-        → start ≡ sign_len f bytes.now → ((z : ℤ) → ¬ (SpellsNumber f bytes.now z))
+        → start ≡ sign_len f bytes.now → ((z : ℤ) → ¬ (IsCanonical f bytes.now z))
         → (k : Kind) → IsCause k f bytes.now result }
 {
     if !is_utf8(bytes, is_text) {

@@ -52,7 +52,7 @@ pub enum StrictError {
     /// No byte is unexpected, and the text is that of no number, grouped or not:
     /// under `en` these are `01`, `1,23`, `1234,567` and `-0`.
     Misspelled,
-    /// The text spells a number that is no value of the type.
+    /// The text is canonical for a number that is no value of the type.
     OutOfRange,
 }
 

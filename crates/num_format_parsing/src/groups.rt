@@ -10,10 +10,10 @@ ghost use Rattle.num_format_int.specs.Grouped.{printed_separator};
 ghost use Rattle.num_format_int.specs.Kind.{signed_number};
 ghost use Rattle.num_format_parsing.specs.Parts.{AppendsGroup, BeginsWithDigits, BeginsWithGroup, HasDigits, IsBody};
 ghost use Rattle.num_format_parsing.specs.Parts.{IsInGroups, number_in};
-ghost use Rattle.num_format_parsing.specs.Shapes.{BeginsWithDigit, HasSign, byte_figures};
-ghost use Rattle.num_format_parsing.specs.Strict.{SpellsNumber};
+ghost use Rattle.num_format_parsing.specs.Shapes.{BeginsWithDigit, HasSign, byte_digits};
+ghost use Rattle.num_format_parsing.specs.Strict.{IsCanonical};
 
-use crate::accumulator::{Accumulator, SAFE_FIGURES};
+use crate::accumulator::{Accumulator, SAFE_DIGITS};
 use crate::bytes::{begins_with, begins_with_digit};
 use crate::symbols::Sign;
 use num_format_text::Grouping;
@@ -21,16 +21,16 @@ use num_format_text::grouping::Sizes;
 
 /// What was read of a text: how many digits, and the number that they write, modulo the bound of the accumulator.
 #[derive(Clone, Copy)]
-pub(crate) struct Part<A> {
-    pub(crate) figures: usize,
+pub(crate) struct ParsedDigits<A> {
+    pub(crate) digit_count: usize,
     pub(crate) magnitude: A,
 }
 
 /// A short text has at most so many bytes, as those of a minus sign and three digits.
 pub(crate) const SHORT_LEN: usize = 4;
 
-/// The bytes of [`SAFE_FIGURES`] digits in groups of three with such a separator.
-pub(crate) const LONGEST_GROUPS: usize = SAFE_FIGURES + 6;
+/// The bytes of [`SAFE_DIGITS`] digits in groups of three with such a separator.
+pub(crate) const LONGEST_GROUPS: usize = SAFE_DIGITS + 6;
 
 /// What the first of so many digits counts for, where the last is added to it.
 const FIRST_WEIGHTS: [u64; 4] = [0, 0, 10, 100];
@@ -38,15 +38,15 @@ const FIRST_WEIGHTS: [u64; 4] = [0, 0, 10, 100];
 /// What the digit between them counts for.
 const MIDDLE_WEIGHTS: [u64; 4] = [0, 0, 0, 10];
 
-/// Returns the absolute value of the number that a text spells, if it has at most three bytes after its minus sign. It
-/// may return `None` for any text.
+/// Returns the absolute value of the number for which a text is canonical, if it has at most three bytes after its
+/// minus sign. It may return `None` for any text.
 ///
 /// Such a text is parsed alike, whatever the separator and the grouping.
 #[inline(always)]
 pub(crate) fn read_short(text: &[u8], sign: Sign) -> Option<u64>
     requires { sign.len ≤ length text.now }
     ensures { IfSome result (λ n. (f : FormatData) → HasSign f text.now sign.is_negative sign.len
-        → SpellsNumber f text.now (signed_number sign.is_negative n)) }
+        → IsCanonical f text.now (signed_number sign.is_negative n)) }
 {
     let body = &text[sign.len..];
     if body.len() >= SHORT_LEN || !begins_with_digit(body) {
@@ -55,8 +55,8 @@ pub(crate) fn read_short(text: &[u8], sign: Sign) -> Option<u64>
     first_digits(body)
 }
 
-/// Returns the absolute value of the number that a text spells in groups with a separator. It may return `None` for any
-/// text, and does so where the digits may not fit 64 bits.
+/// Returns the absolute value of the number for which a text is canonical in groups with a separator. It may return
+/// `None` for any text, and does so where the digits may not fit 64 bits.
 ///
 /// A text of digits alone has a digit where the last separator would be.
 #[inline(always)]
@@ -68,10 +68,10 @@ pub(crate) fn read_in_groups(
 ) -> Option<u64>
     requires long { SHORT_LEN < length text.now }
     requires within { sign.len ≤ length text.now }
-    requires plain { byte_figures separator.now ≡ [] }
+    requires plain { byte_digits separator.now ≡ [] }
     ensures { IfSome result (λ n. (f : FormatData) → HasSign f text.now sign.is_negative sign.len
         → separator.now ≡ printed_separator f.grouping f.separator → grouping ≡ f.grouping
-        → SpellsNumber f text.now (signed_number sign.is_negative n)) }
+        → IsCanonical f text.now (signed_number sign.is_negative n)) }
 {
     let sizes = grouping.sizes()?;
     let separator = separator.as_bytes();
@@ -98,7 +98,7 @@ pub(crate) fn read_in_groups(
 #[inline(never)]
 fn read_by_byte(text: &[u8], separator: &[u8], sizes: Sizes) -> Option<u64>
     requires long { (SHORT_LEN ≤ length text.now) × (length text.now ≤ LONGEST_GROUPS) }
-    requires plain { byte_figures separator.now ≡ [] }
+    requires plain { byte_digits separator.now ≡ [] }
     requires separator { length separator.now ≡ 1 }
     ensures { IfSome result (λ n. IsInGroups sizes.last sizes.size separator.now text.now × (n ≡ number_in text.now)
         × (sizes.size ≤ 3) × (sizes.last ≡ 3)) }
@@ -117,35 +117,44 @@ fn read_by_byte(text: &[u8], separator: &[u8], sizes: Sizes) -> Option<u64>
 #[inline(always)]
 fn read_by_length(text: &[u8], separator: &[u8], size: usize) -> Option<u64>
     requires long { (SHORT_LEN ≤ length text.now) × (length text.now ≤ LONGEST_GROUPS) }
-    requires plain { byte_figures separator.now ≡ [] }
+    requires plain { byte_digits separator.now ≡ [] }
     requires separator { length separator.now ≡ 1 }
     requires size { (0 < size) × (size ≤ 3) }
     ensures { IfSome result (λ n. IsInGroups 3 size separator.now text.now × (n ≡ number_in text.now)) }
 {
-    let figures = (text.len() - 4) % (size + 1);
-    if figures == 0 || figures > size {
+    let digit_count = (text.len() - 4) % (size + 1);
+    if digit_count == 0 || digit_count > size {
         return None;
     }
-    if text[figures] != separator[0] {
+    if text[digit_count] != separator[0] {
         return None;
     }
-    let magnitude = first_digits(&text[..figures])?;
-    let whole = read_groups(text, Part { figures, magnitude }, separator, 3, size)?;
+    let magnitude = first_digits(&text[..digit_count])?;
+    let whole = read_groups(
+        text,
+        ParsedDigits {
+            digit_count,
+            magnitude,
+        },
+        separator,
+        3,
+        size,
+    )?;
     Some(whole.magnitude)
 }
 
 /// Returns the number in a text of groups of three with a separator of more bytes. It may return `None` for any text.
 #[inline(always)]
 fn read_by_bytes(text: &[u8], separator: &[u8], sizes: Sizes) -> Option<u64>
-    requires { byte_figures separator.now ≡ [] }
+    requires { byte_digits separator.now ≡ [] }
     ensures { IfSome result (λ n. BeginsWithDigit text.now × IsInGroups sizes.last sizes.size separator.now text.now
-        × (n ≡ number_in text.now) × (sizes.least ≤ length (byte_figures text.now))) }
+        × (n ≡ number_in text.now) × (sizes.least ≤ length (byte_digits text.now))) }
 {
     let width = separator.len();
     if sizes.size != 3 || sizes.last != 3 || width == 0 || width > 8 {
         return None;
     }
-    if text.len() <= width + 3 || text.len() > SAFE_FIGURES + 6 * width {
+    if text.len() <= width + 3 || text.len() > SAFE_DIGITS + 6 * width {
         return None;
     }
     if text[text.len() - width - 3] != separator[0] {
@@ -161,18 +170,27 @@ fn read_by_bytes(text: &[u8], separator: &[u8], sizes: Sizes) -> Option<u64>
 #[inline(never)]
 fn read_by_width(text: &[u8], separator: &[u8], least: usize) -> Option<u64>
     requires long { length separator.now + 3 < length text.now }
-    requires plain { byte_figures separator.now ≡ [] }
+    requires plain { byte_digits separator.now ≡ [] }
     requires separator { 0 < length separator.now }
     ensures { IfSome result (λ n. IsInGroups 3 3 separator.now text.now × (n ≡ number_in text.now)
-        × (least ≤ length (byte_figures text.now))) }
+        × (least ≤ length (byte_digits text.now))) }
 {
-    let figures = (text.len() - separator.len() - 3) % (separator.len() + 3);
-    if figures == 0 || figures > 3 || text[figures] != separator[0] {
+    let digit_count = (text.len() - separator.len() - 3) % (separator.len() + 3);
+    if digit_count == 0 || digit_count > 3 || text[digit_count] != separator[0] {
         return None;
     }
-    let magnitude = first_digits(&text[..figures])?;
-    let whole = read_groups(text, Part { figures, magnitude }, separator, 3, 3)?;
-    if whole.figures < least || whole.figures > SAFE_FIGURES {
+    let magnitude = first_digits(&text[..digit_count])?;
+    let whole = read_groups(
+        text,
+        ParsedDigits {
+            digit_count,
+            magnitude,
+        },
+        separator,
+        3,
+        3,
+    )?;
+    if whole.digit_count < least || whole.digit_count > SAFE_DIGITS {
         return None;
     }
     Some(whole.magnitude)
@@ -194,51 +212,52 @@ fn first_digits(text: &[u8]) -> Option<u64>
     Some(first * FIRST_WEIGHTS[count] + middle * MIDDLE_WEIGHTS[count] + last)
 }
 
-/// Returns the whole of a text that begins with a digit other than zero, or `None` if it spells no number.
+/// Returns the whole of a text that begins with a digit other than zero, or `None` if it is canonical for no number.
 #[inline]
 pub(crate) fn read_text<A: Accumulator>(
     text: &[u8],
     separator: &str,
     grouping: Grouping,
-) -> Option<Part<A>>
+) -> Option<ParsedDigits<A>>
     requires begin { BeginsWithDigit text.now }
-    requires plain { byte_figures separator.now ≡ [] }
+    requires plain { byte_digits separator.now ≡ [] }
     ensures { MatchOption result (¬ (IsBody grouping separator.now text.now))
         (λ whole. IsBody grouping separator.now text.now
-        × HasDigits A.bound text.now whole.figures (A.number whole.magnitude)) }
+        × HasDigits A.bound text.now whole.digit_count (A.number whole.magnitude)) }
 {
     let first = read_digits(text);
-    if first.figures == text.len() {
+    if first.digit_count == text.len() {
         return Some(first);
     }
     let whole = read_grouped(text, first, separator.as_bytes(), grouping);
-    if whole.figures == 0 {
+    if whole.digit_count == 0 {
         return None;
     }
     Some(whole)
 }
 
-/// Returns the whole of a text that does not end with its first digits, or a part of no digits if it spells no number.
+/// Returns the whole of a text that does not end with its first digits, or a part of no digits if it is canonical for
+/// no number.
 ///
 /// It is a function of its own, so that digits alone are read without its space. A part of 64 bits is returned in
 /// registers, and an `Option` of it would be returned in memory.
 #[inline(never)]
 fn read_grouped<A: Accumulator>(
     text: &[u8],
-    first: Part<A>,
+    first: ParsedDigits<A>,
     separator: &[u8],
     grouping: Grouping,
-) -> Part<A>
-    requires begin { BeginsWithDigits text.now first.figures }
-    requires read { HasDigits A.bound (take first.figures text.now) first.figures (A.number first.magnitude) }
-    requires plain { byte_figures separator.now ≡ [] }
-    ensures none { result.figures ≡ 0 → ¬ (IsBody grouping separator.now text.now) }
-    ensures some { 0 < result.figures → IsBody grouping separator.now text.now
-        × HasDigits A.bound text.now result.figures (A.number result.magnitude) }
+) -> ParsedDigits<A>
+    requires begin { BeginsWithDigits text.now first.digit_count }
+    requires read { HasDigits A.bound (take first.digit_count text.now) first.digit_count (A.number first.magnitude) }
+    requires plain { byte_digits separator.now ≡ [] }
+    ensures none { result.digit_count ≡ 0 → ¬ (IsBody grouping separator.now text.now) }
+    ensures some { 0 < result.digit_count → IsBody grouping separator.now text.now
+        × HasDigits A.bound text.now result.digit_count (A.number result.magnitude) }
 {
     let magnitude = A::zero();
-    let none = Part {
-        figures: 0,
+    let none = ParsedDigits {
+        digit_count: 0,
         magnitude,
     };
     let Some(sizes) = grouping.sizes() else {
@@ -250,7 +269,7 @@ fn read_grouped<A: Accumulator>(
     let Some(whole) = read_by_sizes(text, first, separator, sizes) else {
         return none;
     };
-    if whole.figures < sizes.least {
+    if whole.digit_count < sizes.least {
         return none;
     }
     whole
@@ -262,18 +281,18 @@ fn read_grouped<A: Accumulator>(
 #[inline(always)]
 fn read_by_sizes<A: Accumulator>(
     text: &[u8],
-    first: Part<A>,
+    first: ParsedDigits<A>,
     separator: &[u8],
     sizes: Sizes,
-) -> Option<Part<A>>
-    requires begin { BeginsWithDigits text.now first.figures }
-    requires read { HasDigits A.bound (take first.figures text.now) first.figures (A.number first.magnitude) }
-    requires plain { byte_figures separator.now ≡ [] }
+) -> Option<ParsedDigits<A>>
+    requires begin { BeginsWithDigits text.now first.digit_count }
+    requires read { HasDigits A.bound (take first.digit_count text.now) first.digit_count (A.number first.magnitude) }
+    requires plain { byte_digits separator.now ≡ [] }
     requires separator { 0 < length separator.now }
     requires size { (0 < sizes.size) × (sizes.size ≤ sizes.last) × (sizes.last ≤ 4) }
     ensures { MatchOption result (¬ (IsInGroups sizes.last sizes.size separator.now text.now))
         (λ whole. IsInGroups sizes.last sizes.size separator.now text.now
-        × HasDigits A.bound text.now whole.figures (A.number whole.magnitude)) }
+        × HasDigits A.bound text.now whole.digit_count (A.number whole.magnitude)) }
 {
     match (sizes.size, sizes.last) {
         (3, 3) => read_groups(text, first, separator, 3, 3),
@@ -283,17 +302,17 @@ fn read_by_sizes<A: Accumulator>(
 
 /// Returns the number that the digits among bytes write, or `None` if it is not below the bound.
 ///
-/// Few texts come here: those with more digits than are safe, and those that spell no number.
+/// Few texts come here: those with more digits than are safe, and those that are canonical for no number.
 #[cold]
 #[inline(never)]
 pub(crate) fn exact_number<A: Accumulator>(text: &[u8]) -> Option<A>
     ensures { MatchOption result (A.bound ≤ number_in text.now) (λ n. A.number n ≡ number_in text.now) }
 {
     let mut number = A::zero();
-    for figures in 0..text.len() {
-        let byte = text[figures];
+    for digit_count in 0..text.len() {
+        let byte = text[digit_count];
         if byte.is_ascii_digit() {
-            number = number.push_digit(figures, byte - b'0')?;
+            number = number.push_digit(digit_count, byte - b'0')?;
         }
     }
     Some(number)
@@ -301,23 +320,26 @@ pub(crate) fn exact_number<A: Accumulator>(text: &[u8]) -> Option<A>
 
 /// Returns the digits that a text begins with.
 #[inline]
-fn read_digits<A: Accumulator>(text: &[u8]) -> Part<A>
-    ensures within { result.figures ≤ length text.now }
-    ensures digits { list_all is_ascii_digit (take result.figures text.now) ≡ true }
-    ensures read { HasDigits A.bound (take result.figures text.now) result.figures (A.number result.magnitude) }
-    ensures stop { result.figures < length text.now
-        → is_ascii_digit (slice_index text.now result.figures) ≡ false }
+fn read_digits<A: Accumulator>(text: &[u8]) -> ParsedDigits<A>
+    ensures within { result.digit_count ≤ length text.now }
+    ensures digits { list_all is_ascii_digit (take result.digit_count text.now) ≡ true }
+    ensures read { HasDigits A.bound (take result.digit_count text.now) result.digit_count (A.number result.magnitude) }
+    ensures stop { result.digit_count < length text.now
+        → is_ascii_digit (slice_index text.now result.digit_count) ≡ false }
 {
     let mut magnitude = A::zero();
-    for figures in 0..text.len() {
-        let byte = text[figures];
+    for digit_count in 0..text.len() {
+        let byte = text[digit_count];
         if !byte.is_ascii_digit() {
-            return Part { figures, magnitude };
+            return ParsedDigits {
+                digit_count,
+                magnitude,
+            };
         }
         magnitude = magnitude.push_group(10, (byte - b'0') as u64);
     }
-    Part {
-        figures: text.len(),
+    ParsedDigits {
+        digit_count: text.len(),
         magnitude,
     }
 }
@@ -361,18 +383,18 @@ fn few_digits(text: &[u8]) -> Option<(u64, u64)>
 /// It is inlined, so that a part stays in registers.
 #[inline(always)]
 fn push_group<A: Accumulator>(
-    part: Part<A>,
+    part: ParsedDigits<A>,
     text: &[u8],
     separator: &[u8],
     count: usize,
-) -> Option<Part<A>>
+) -> Option<ParsedDigits<A>>
     requires separator { 0 < length separator.now }
     requires room { length separator.now + count ≤ length text.now }
-    requires figures { part.figures + count < 2 ^ 64 }
+    requires digit_count { part.digit_count + count < 2 ^ 64 }
     requires few { (0 < count) × (count ≤ 4) }
     ensures { MatchOption result
         (¬ (BeginsWithGroup separator.now count text.now (drop (length separator.now + count) text.now)))
-        (λ more. (more.figures ≡ part.figures + count)
+        (λ more. (more.digit_count ≡ part.digit_count + count)
         × AppendsGroup A.bound separator.now count text.now (A.number part.magnitude) (A.number more.magnitude)) }
 {
     if !begins_with(text, separator) {
@@ -380,8 +402,8 @@ fn push_group<A: Accumulator>(
     }
     let (_, digits) = text.split_at(separator.len());
     let (group, power) = few_digits(&digits[..count])?;
-    Some(Part {
-        figures: part.figures + count,
+    Some(ParsedDigits {
+        digit_count: part.digit_count + count,
         magnitude: part.magnitude.push_group(power, group),
     })
 }
@@ -393,26 +415,26 @@ fn push_group<A: Accumulator>(
 #[inline(always)]
 fn read_groups<A: Accumulator>(
     text: &[u8],
-    first: Part<A>,
+    first: ParsedDigits<A>,
     separator: &[u8],
     last: usize,
     size: usize,
-) -> Option<Part<A>>
-    requires begin { BeginsWithDigits text.now first.figures }
-    requires read { HasDigits A.bound (take first.figures text.now) first.figures (A.number first.magnitude) }
-    requires plain { byte_figures separator.now ≡ [] }
+) -> Option<ParsedDigits<A>>
+    requires begin { BeginsWithDigits text.now first.digit_count }
+    requires read { HasDigits A.bound (take first.digit_count text.now) first.digit_count (A.number first.magnitude) }
+    requires plain { byte_digits separator.now ≡ [] }
     requires separator { 0 < length separator.now }
     requires size { (0 < size) × (size ≤ last) × (last ≤ 4) }
     ensures { MatchOption result (¬ (IsInGroups last size separator.now text.now))
         (λ whole. IsInGroups last size separator.now text.now
-        × HasDigits A.bound text.now whole.figures (A.number whole.magnitude)) }
+        × HasDigits A.bound text.now whole.digit_count (A.number whole.magnitude)) }
 {
-    if first.figures > size {
+    if first.digit_count > size {
         return None;
     }
     let least = separator.len() + last;
     let mut part = first;
-    let mut end = first.figures;
+    let mut end = first.digit_count;
     while text.len() - end > least {
         let next = push_group(part, &text[end..], separator, size)?;
         part = next;

@@ -1,4 +1,5 @@
-//! How a text is parsed as the number that it denotes: as a text that spells a number, and else by all of its digits.
+//! How a text is parsed as the number that it denotes: as a text that is canonical for a number, and else by all of its
+//! digits.
 ghost use Rattle.std.specs.Prelude.{◌≡◌, ◌-◌, if◌then◌else◌, IsTrue, IsUtf8};
 ghost use Rattle.num_format_text.specs.Cut.{cut_text};
 ghost use Rattle.num_format_text.specs.Format.{FormatData};
@@ -13,7 +14,7 @@ use crate::error::{ParseBytesError, StrictError};
 use crate::groups::exact_number;
 use crate::parsing::FromFormattedStr;
 use crate::reading::Reading;
-use crate::strict::{parse_strict, read_few, read_spelled};
+use crate::strict::{parse_strict, read_canonical, read_few};
 use crate::symbols::has_other_numeral;
 use num_format_int::sealed::Sealed;
 use num_format_text::error::cut;
@@ -81,20 +82,20 @@ fn parse<F: Format, N: Sealed>(bytes: &[u8], is_text: bool, format: &F) -> Optio
     if let Some((sign, magnitude)) = read_few(bytes, minus_sign, format) {
         return N::from_sign_and_magnitude(sign.is_negative, magnitude as u128);
     }
-    let (is_negative, reading) = read_spelled::<N, F>(bytes, minus_sign, format);
+    let (is_negative, reading) = read_canonical::<N, F>(bytes, minus_sign, format);
     match reading {
         Reading::Number(magnitude) => N::from_sign_and_magnitude(is_negative, magnitude),
         Reading::TooLarge => None,
-        Reading::Unspelled => parse_unspelled(bytes, is_text, minus_sign),
+        Reading::NotCanonical => parse_by_digits(bytes, is_text, minus_sign),
     }
 }
 
-/// Does the same for a text that spells no number, where the format has this minus sign.
+/// Does the same for a text that is canonical for no number, where the format has this minus sign.
 ///
 /// Whether a type is wide is known where the code is compiled, so one branch is left. The space of the call's result is
 /// this function's, so that it is cleared for such texts alone.
 #[inline(always)]
-fn parse_unspelled<N: Sealed>(bytes: &[u8], is_text: bool, minus_sign: &str) -> Option<N>
+fn parse_by_digits<N: Sealed>(bytes: &[u8], is_text: bool, minus_sign: &str) -> Option<N>
     requires { IsTrue is_text → IsUtf8 bytes.now }
     ensures { (f : FormatData) → minus_sign.now ≡ f.minus_sign → ParsesBytes N.kind N.value f bytes.now result }
 {
@@ -114,12 +115,12 @@ fn parse_any<N: Sealed, A: Accumulator>(bytes: &[u8], is_text: bool, minus_sign:
     requires within { IsWithin A.bound N.kind }
     ensures { (f : FormatData) → minus_sign.now ≡ f.minus_sign → ParsesBytes N.kind N.value f bytes.now result }
 {
-    let figures = count_digits(bytes);
-    if figures == 0 || !is_utf8(bytes, is_text) {
+    let digit_count = count_digits(bytes);
+    if digit_count == 0 || !is_utf8(bytes, is_text) {
         return None;
     }
     let is_negative = is_prefix(bytes, minus_sign.as_bytes());
-    if figures > most_figures::<N>(is_negative) {
+    if digit_count > most_digits::<N>(is_negative) {
         return None;
     }
     if has_other_numeral(unsafe { str::from_utf8_unchecked(bytes) }) {
@@ -131,7 +132,7 @@ fn parse_any<N: Sealed, A: Accumulator>(bytes: &[u8], is_text: bool, minus_sign:
 
 /// Returns the most digits of a text that is parsed, of which a minus sign counts as one.
 #[inline]
-fn most_figures<N: Sealed>(is_negative: bool) -> usize
+fn most_digits<N: Sealed>(is_negative: bool) -> usize
     ensures { result ≡ N.kind.limit - (if is_negative then 1 else 0) }
 {
     N::limit().saturating_sub(is_negative as usize)

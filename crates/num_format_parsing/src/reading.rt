@@ -4,9 +4,9 @@ ghost use Rattle.num_format_text.specs.Format.{FormatData};
 ghost use Rattle.num_format_int.specs.Grouped.{printed_separator};
 ghost use Rattle.num_format_int.specs.Kind.{IsValueOf, signed_number};
 ghost use Rattle.num_format_parsing.specs.Parts.{HasBody, HasReading};
-ghost use Rattle.num_format_parsing.specs.Shapes.{BeginsWithDigit, HasSign, byte_figures};
+ghost use Rattle.num_format_parsing.specs.Shapes.{BeginsWithDigit, HasSign, byte_digits};
 
-use crate::accumulator::{Accumulator, SAFE_FIGURES};
+use crate::accumulator::{Accumulator, SAFE_DIGITS};
 use crate::bytes::begins_with_digit;
 use crate::groups::{LONGEST_GROUPS, exact_number, read_text};
 use crate::symbols::Sign;
@@ -16,12 +16,12 @@ use num_format_text::Grouping;
 /// What was read of a text.
 #[derive(Clone, Copy)]
 pub enum Reading {
-    /// The text spells a number, whose absolute value this is.
+    /// The text is canonical for a number, whose absolute value this is.
     Number(u128),
-    /// The text spells a number that is no value of the type.
+    /// The text is canonical for a number that is no value of the type.
     TooLarge,
-    /// The text spells no number.
-    Unspelled,
+    /// The text is canonical for no number.
+    NotCanonical,
 }
 
 /// Returns what is read of a text.
@@ -33,7 +33,7 @@ pub(crate) fn read<N: Sealed>(
     grouping: Grouping,
 ) -> Reading
     requires within { sign.len ≤ length text.now }
-    requires plain { byte_figures separator.now ≡ [] }
+    requires plain { byte_digits separator.now ≡ [] }
     ensures { (f : FormatData) → HasSign f text.now sign.is_negative sign.len
         → separator.now ≡ printed_separator f.grouping f.separator → grouping ≡ f.grouping
         → HasReading N.kind f text.now sign.is_negative result }
@@ -43,11 +43,11 @@ pub(crate) fn read<N: Sealed>(
         return read_body::<N>(body, separator, grouping);
     }
     if text.len() != 1 {
-        return Reading::Unspelled;
+        return Reading::NotCanonical;
     }
     let byte = text[0];
     if byte != b'0' {
-        return Reading::Unspelled;
+        return Reading::NotCanonical;
     }
     Reading::Number(0)
 }
@@ -59,7 +59,7 @@ pub(crate) fn read<N: Sealed>(
 #[inline(always)]
 fn read_body<N: Sealed>(text: &[u8], separator: &str, grouping: Grouping) -> Reading
     requires begin { BeginsWithDigit text.now }
-    requires plain { byte_figures separator.now ≡ [] }
+    requires plain { byte_digits separator.now ≡ [] }
     ensures { HasBody (λ n. (negative : Bool) → ¬ (IsValueOf N.kind (signed_number negative n)))
         grouping separator.now text.now result }
 {
@@ -70,7 +70,7 @@ fn read_body<N: Sealed>(text: &[u8], separator: &str, grouping: Grouping) -> Rea
         match read_by::<u64>(text, separator, grouping) {
             Reading::Number(magnitude) => return Reading::Number(magnitude),
             Reading::TooLarge => {}
-            Reading::Unspelled => return Reading::Unspelled,
+            Reading::NotCanonical => return Reading::NotCanonical,
         }
     }
     read_wide(text, separator, grouping)
@@ -81,7 +81,7 @@ fn read_body<N: Sealed>(text: &[u8], separator: &str, grouping: Grouping) -> Rea
 #[inline(always)]
 fn seems_wide(bytes: &[u8]) -> bool {
     let len = bytes.len();
-    len > SAFE_FIGURES && (len > LONGEST_GROUPS || bytes[len - 4].is_ascii_digit())
+    len > SAFE_DIGITS && (len > LONGEST_GROUPS || bytes[len - 4].is_ascii_digit())
 }
 
 /// Returns what is read of a text of any length. It is a function of its own, so that shorter texts are parsed without
@@ -89,7 +89,7 @@ fn seems_wide(bytes: &[u8]) -> bool {
 #[inline(never)]
 fn read_wide(text: &[u8], separator: &str, grouping: Grouping) -> Reading
     requires begin { BeginsWithDigit text.now }
-    requires plain { byte_figures separator.now ≡ [] }
+    requires plain { byte_digits separator.now ≡ [] }
     ensures { HasBody (λ n. 2 ^ 128 ≤ n) grouping separator.now text.now result }
 {
     read_by::<u128>(text, separator, grouping)
@@ -99,13 +99,13 @@ fn read_wide(text: &[u8], separator: &str, grouping: Grouping) -> Reading
 #[inline]
 fn read_by<A: Accumulator>(text: &[u8], separator: &str, grouping: Grouping) -> Reading
     requires begin { BeginsWithDigit text.now }
-    requires plain { byte_figures separator.now ≡ [] }
+    requires plain { byte_digits separator.now ≡ [] }
     ensures { HasBody (λ n. A.bound ≤ n) grouping separator.now text.now result }
 {
     let Some(whole) = read_text::<A>(text, separator, grouping) else {
-        return Reading::Unspelled;
+        return Reading::NotCanonical;
     };
-    if whole.figures <= A::safe_figures() {
+    if whole.digit_count <= A::safe_digits() {
         return Reading::Number(whole.magnitude.number());
     }
     match exact_number::<A>(text) {

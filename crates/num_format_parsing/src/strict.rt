@@ -1,10 +1,10 @@
-//! Strict parsing: the number that a text spells, or why it spells none.
+//! Strict parsing: the number for which a text is canonical, or why it is canonical for none.
 ghost use Rattle.std.specs.Prelude.{◌≡◌, ◌↔◌, ℕ, List, [], IsTrue, IsUtf8, IfSome, MatchOption, MatchResult, Ok, Err};
 ghost use Rattle.num_format_text.specs.Format.{FormatData};
 ghost use Rattle.num_format_int.specs.Grouped.{printed_separator};
 ghost use Rattle.num_format_int.specs.Kind.{signed_number};
-ghost use Rattle.num_format_parsing.specs.Strict.{SpellsNumber, ParsesStrictly, HasNoNumeral, IsUnambiguous};
-ghost use Rattle.num_format_parsing.specs.Parts.{HasReading, IsJudged, IsSpelling};
+ghost use Rattle.num_format_parsing.specs.Strict.{IsCanonical, ParsesStrictly, HasNoNumeral, IsUnambiguous};
+ghost use Rattle.num_format_parsing.specs.Parts.{HasReading, IsJudged, IsCanonicalReading};
 ghost use Rattle.num_format_parsing.specs.Shapes.{HasSign};
 ghost use Rattle.num_format_parsing.specs.declared.error.StrictError.TheVariants as cause;
 
@@ -88,7 +88,8 @@ fn are_plain(minus_sign: &str, separator: &str) -> bool
     !minus_sign.is_empty() && is_plain(minus_sign) && is_plain(separator)
 }
 
-/// Returns the number that the text of the bytes spells under a format, or the first cause for which it is refused.
+/// Returns the number for which the text of the bytes is canonical under a format, or the first cause for which it is
+/// refused.
 #[inline(always)]
 pub(crate) fn parse_strict<N: Sealed, F: Format>(
     bytes: &[u8],
@@ -106,32 +107,32 @@ pub(crate) fn parse_strict<N: Sealed, F: Format>(
 }
 
 /// Returns whether the text of the bytes is negative under a format with this minus sign, and what is read of it. A
-/// text spells no number under an ambiguous format.
+/// text is canonical for no number under an ambiguous format.
 #[inline(always)]
-pub(crate) fn read_spelled<N: Sealed, F: Format>(
+pub(crate) fn read_canonical<N: Sealed, F: Format>(
     bytes: &[u8],
     minus_sign: &str,
     format: &F,
 ) -> (bool, Reading)
     requires { minus_sign.now ≡ (F.answers format.now).minus_sign }
-    ensures { IsSpelling N.kind (F.answers format.now) bytes.now result.0 result.1 }
+    ensures { IsCanonicalReading N.kind (F.answers format.now) bytes.now result.0 result.1 }
 {
     let Ok(parser) = StrictParser::with_sign(format, minus_sign) else {
-        return (false, Reading::Unspelled);
+        return (false, Reading::NotCanonical);
     };
     let sign = parser.sign(bytes);
     (sign.is_negative, parser.read::<N>(bytes, sign))
 }
 
-/// Returns the sign of the number that a text of few bytes spells, and its absolute value. It may return `None` for any
-/// text.
+/// Returns the sign of the number for which a text of few bytes is canonical, and its absolute value. It may return
+/// `None` for any text.
 ///
 /// Many texts are short. What is needed of the separator is what its getter promises: that it is UTF-8.
 #[inline(always)]
 pub(crate) fn read_few<F: Format>(bytes: &[u8], minus_sign: &str, format: &F) -> Option<(Sign, u64)>
     requires { minus_sign.now ≡ (F.answers format.now).minus_sign }
     ensures { IfSome result (λ read. HasSign (F.answers format.now) bytes.now read.0.is_negative read.0.len
-        × SpellsNumber (F.answers format.now) bytes.now (signed_number read.0.is_negative read.1)) }
+        × IsCanonical (F.answers format.now) bytes.now (signed_number read.0.is_negative read.1)) }
 {
     if bytes.len() > SHORT_LEN || !format.has_common_symbols() {
         return None;
@@ -198,7 +199,7 @@ impl<'a, F: Format> StrictParser<'a, F> {
         }
     }
 
-    /// Returns the number that the text spells, or the first cause for which it is refused.
+    /// Returns the number for which the text is canonical, or the first cause for which it is refused.
     ///
     /// ```rust
     /// let parser = StrictParser::new(&Locale::en)?;
@@ -214,7 +215,8 @@ impl<'a, F: Format> StrictParser<'a, F> {
         self.parse_any(text.as_bytes(), true)
     }
 
-    /// Returns the number that the text of these bytes spells, or the first cause for which they are refused.
+    /// Returns the number for which the text of these bytes is canonical, or the first cause for which they are
+    /// refused.
     ///
     /// ```rust
     /// let parser = StrictParser::new(&Locale::en)?;
@@ -229,7 +231,8 @@ impl<'a, F: Format> StrictParser<'a, F> {
         self.parse_any(bytes, false)
     }
 
-    /// Returns the number that the text of these bytes spells, or `None` if they are refused. It looks for no cause.
+    /// Returns the number for which the text of these bytes is canonical, or `None` if they are refused. It looks for
+    /// no cause.
     ///
     /// ```rust
     /// let parser = StrictParser::new(&Locale::en)?;
@@ -248,7 +251,7 @@ impl<'a, F: Format> StrictParser<'a, F> {
                 Err(_) => None,
             },
             Reading::TooLarge => None,
-            Reading::Unspelled => None,
+            Reading::NotCanonical => None,
         }
     }
 
@@ -286,7 +289,7 @@ impl<'a, F: Format> StrictParser<'a, F> {
         self.grouping
     }
 
-    /// Returns the number that the text of the bytes spells, or the first cause for which it is refused.
+    /// Returns the number for which the text of the bytes is canonical, or the first cause for which it is refused.
     ///
     /// Where the caller knows that the bytes are UTF-8, that is not tested again.
     #[inline(always)]
@@ -298,7 +301,7 @@ impl<'a, F: Format> StrictParser<'a, F> {
         match self.read::<N>(bytes, sign) {
             Reading::Number(magnitude) => number_of(sign, magnitude),
             Reading::TooLarge => Err(StrictError::OutOfRange),
-            Reading::Unspelled => {
+            Reading::NotCanonical => {
                 Err(cause(bytes, is_text, sign.len, self.separator().as_bytes()))
             }
         }
@@ -316,12 +319,12 @@ impl<'a, F: Format> StrictParser<'a, F> {
         }
     }
 
-    /// Returns the absolute value of the number that a text spells. It may return `None` for any text, and does
-    /// not for most that people write.
+    /// Returns the absolute value of the number for which a text is canonical. It may return `None` for any text, and
+    /// does not for most that people write.
     #[inline(always)]
     fn read_directly(&self, text: &[u8], sign: Sign) -> Option<u64>
         requires { HasSign self.now text.now sign.is_negative sign.len }
-        ensures { IfSome result (λ n. SpellsNumber self.now text.now (signed_number sign.is_negative n)) }
+        ensures { IfSome result (λ n. IsCanonical self.now text.now (signed_number sign.is_negative n)) }
     {
         if text.len() <= SHORT_LEN {
             return read_short(text, sign);
@@ -334,7 +337,7 @@ impl<'a, F: Format> StrictParser<'a, F> {
 #[inline(always)]
 fn number_of<N: Sealed>(sign: Sign, magnitude: u128) -> Result<N, StrictError>
     ensures { (f : FormatData) (t : List ℕ) → HasSign f t sign.is_negative sign.len
-        → SpellsNumber f t (signed_number sign.is_negative magnitude)
+        → IsCanonical f t (signed_number sign.is_negative magnitude)
         → IsJudged N.kind N.value f t result }
 {
     match N::from_sign_and_magnitude(sign.is_negative, magnitude) {

@@ -88,7 +88,7 @@ printed-decimal f t d result typable parses returned =
 
 pub printed-at_scale : PrintedAtScaleLaw
 printed-at_scale f t scale d result typable parses returned =
-    let first = accepted-decimal f t parses.spelled returned.parsed typable parses.parses returned.decimal in
+    let first = accepted-decimal f t parses.canonical returned.parsed typable parses.parses returned.decimal in
     rescaled-only result first.0 first.2 (subst (λ (r : Result FixedPoint (TypedError ParseDecimalError)). MatchResult r
     (λ x. RescaleResult x scale result) (λ e. result ≡ Err (at_any_scale e))) first.1 returned.at_scale)
   where
@@ -96,11 +96,11 @@ printed-at_scale f t scale d result typable parses returned =
         → RescaleResult y scale result → result ≡ Ok d
     rescaled-only (Ok x) y accepted at =
         let same = ((scaled-judged f t scale (Ok y) accepted (Ok x)
-        (record { spelled = y; parses = (accepted.decimal y).0 refl; can = at.0; same = at.1 })).decimal d).1 parses in
+        (record { canonical = y; parses = (accepted.decimal y).0 refl; can = at.0; same = at.1 })).decimal d).1 parses in
         let one : x ≡ d = cc in ap Ok one
     rescaled-only (Err (Number (at_scale.Rescale e))) y accepted at =
         let wrong = ((scaled-judged f t scale (Ok y) accepted (Err (at_scale.Rescale e))
-        (record { spelled = y; parses = (accepted.decimal y).0 refl; cannot = at })).decimal d).1 parses in
+        (record { canonical = y; parses = (accepted.decimal y).0 refl; cannot = at })).decimal d).1 parses in
         absurd (cc)
     rescaled-only (Err (Number (at_scale.Parse e))) y accepted at = absurd at
     rescaled-only (Err TooLong) y accepted at = absurd at

@@ -13,7 +13,7 @@ use Rattle.num_format_text.specs.Format.{FormatData}
 use Rattle.num_format_parsing.specs.Reading.{is_other_numeral}
 use Rattle.num_format_parsing.specs.Strict.{HasNoNumeral, IsUnambiguous}
 use Rattle.num_format_parsing.proofs.CommonLemmas.{of_printed}
-use Rattle.num_format_parsing.proofs.FigureLemmas.{figures-none}
+use Rattle.num_format_parsing.proofs.DigitLemmas.{text_digits-none}
 use Rattle.num_format_parsing.proofs.ReadingLemmas.{ucd_category}
 use Rattle.num_format_typed.specs.Classes.{is_of}
 use Rattle.num_format_typed.specs.Rewriting.{without_ends}
@@ -75,7 +75,7 @@ separators_plain = refl
 
 plain : (t : List ℕ) → is_plain t ≡ true → HasNoNumeral t
 plain t passed = record {
-  no_digit = figures-none (chars t) (not-true _ (first_so _ _ passed));
+  no_digit = text_digits-none (chars t) (not-true _ (first_so _ _ passed));
   no_other = not-true _ (second_so _ _ passed);
 }
 

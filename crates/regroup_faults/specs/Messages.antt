@@ -9,7 +9,7 @@ use Rattle.std.specs.Char.{is_ascii_digit}
 use Rattle.std.specs.List.{flat_map}
 use Rattle.std.specs.Str.{bytes_eq, chars, is_utf8}
 use Rattle.num_format.specs.Format.{FormatData}
-use Rattle.num_format.specs.Reading.{figures}
+use Rattle.num_format.specs.Reading.{text_digits}
 use Rattle.num_format.specs.Refusal.{Refusal, Capacity, Other, ParseLocale, ParseNumber}
 use Rattle.num_format_decimal.specs.FixedPoint.{FixedPoint}
 use Rattle.num_format_decimal.specs.Parsing.{after_mark, unexpected_in_decimal}
@@ -21,7 +21,7 @@ use Rattle.num_format_decimal.specs.declared.parsing.ParseDecimalError.TheVarian
 use Rattle.num_format_typed.specs.Typed.{place_in, typed_text}
 use Rattle.regroup_faults.specs.Notation.{NotationData}
 use Rattle.regroup_faults.specs.Quoting.{hex_digit, quoted, shown}
-use Rattle.regroup_faults.specs.Decimals.{decimal_read, marks_decimals, spelled, typed_read, types_decimals}
+use Rattle.regroup_faults.specs.Decimals.{decimal_read, marks_decimals, canonical_value, typed_read, types_decimals}
 use Rattle.regroup_faults.specs.Fault.{Fault, line_of}
 use Rattle.regroup_faults.specs.Fault.Fault.{TooMany, TooLong, FewFields, Read, NotText, FieldNotText, Line, Field, Unclosed, Write, Report}
 use Rattle.regroup_faults.specs.Fault.Fault.{Reject, Flush}
@@ -44,22 +44,23 @@ why_in (decimal.Unexpected at) = why.Unexpected at
 why_in decimal.Misspelled = why.Misspelled
 why_in _ = why.Unknown
 
--- what is known of a text that spells no decimal, by what is left of it from the first byte on that strict parsing does not expect
+-- what is known of a text that is canonical for no decimal, by what is left of it from the first byte on that strict parsing does not
+-- expect
 abbrev pub why_left : FormatData → (text rest : List ℕ) → Why
 why_left from text [] =
-    if not (bytes_eq (figures text) []) && nat_le (length (after_mark from text)) MAX_SCALE then why.Misspelled else why.Unknown
+    if not (bytes_eq (text_digits text) []) && nat_le (length (after_mark from text)) MAX_SCALE then why.Misspelled else why.Unknown
 why_left from text (b ∷ rest) = why.Unexpected (length text - length (b ∷ rest))
 
 -- nothing where there is a decimal
-abbrev pub unless_spelled : Option FixedPoint → Why → Why
-unless_spelled None known = known
-unless_spelled (Some decimal) known = why.Unknown
+abbrev pub unless_canonical : Option FixedPoint → Why → Why
+unless_canonical None known = known
+unless_canonical (Some decimal) known = why.Unknown
 
 -- why strict parsing refuses a text, if it does, and decimals can be told under the format
 unfoldable pub why_refused : FormatData → List ℕ → Why
 why_refused from text =
     if marks_decimals from && is_utf8 text
-    then unless_spelled (spelled from text) (why_left from text (unexpected_in_decimal from text)) else why.Unknown
+    then unless_canonical (canonical_value from text) (why_left from text (unexpected_in_decimal from text)) else why.Unknown
 
 -- the first characters in which two texts differ, after how many bytes, of which so many were before these texts
 abbrev pub change_after : (before : ℕ) → (text other : List ℕ) → Option (ℕ × ℕ × ℕ)

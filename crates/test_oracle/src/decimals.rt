@@ -48,7 +48,7 @@ fn is_written<F: Format>(alloc: Global, decimal: &Decimal, format: &F, text: &st
     Some(is_whole && string.as_str() == text && bytes.as_slice() == text.as_bytes())
 }
 
-/// Returns the decimal that a text spells, by itself and by a parser.
+/// Returns the decimal for which a text is canonical, by itself and by a parser.
 pub fn parsed_decimal<F: Format>(alloc: Global, text: &str, format: &F) -> Option<String> {
     let by_parser = match DecimalParser::new(format) {
         Ok(parser) => parser.parse(text),
@@ -75,7 +75,7 @@ pub fn typed_decimal<F: Format>(alloc: Global, text: &str, format: &F) -> Option
     agreed(alloc, &results)
 }
 
-/// Returns the units of the decimal that a text spells, at a scale, by itself and by a parser.
+/// Returns the units of the decimal for which a text is canonical, at a scale, by itself and by a parser.
 pub fn decimal_at_scale<F: Format>(
     alloc: Global,
     text: &str,

@@ -12,7 +12,7 @@ use num_format::{
 use std::process::Abort;
 use std::test::Fail;
 
-/// A text, the number that it denotes under `en`, and the one that it spells.
+/// A text, the number that it denotes under `en`, and the one for which it is canonical.
 type Case = (&'static str, Option<i64>, Result<i64, StrictError>);
 
 #[rattlefmt::skip]
@@ -28,18 +28,18 @@ const TEXTS: [Case; 7] = [
 
 /// Asserts what is returned of the text as a `&str` and as bytes.
 fn assert_case(rt: &impl Abort, case: Case) {
-    let (text, denoted, spelled) = case;
+    let (text, denoted, canonical) = case;
     assert_equal(rt, i64::from_formatted_str(text, &Locale::en).ok(), denoted);
     assert_equal(
         rt,
         i64::from_formatted_bytes(text.as_bytes(), &Locale::en).ok(),
         denoted,
     );
-    assert_equal(rt, i64::from_strict_str(text, &Locale::en), spelled);
+    assert_equal(rt, i64::from_strict_str(text, &Locale::en), canonical);
     assert_equal(
         rt,
         i64::from_strict_bytes(text.as_bytes(), &Locale::en),
-        spelled,
+        canonical,
     );
 }
 

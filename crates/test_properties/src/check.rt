@@ -9,10 +9,10 @@
 //! | parses | all | the text is parsed as a number, or refused with an error that keeps its longest prefix within 256 bytes |
 //! | appended | all | with a character appended that is not numeric, the text is parsed as the same number, or refused as before, unless it begins with the minus sign only now |
 //! | strict | whose bytes are parsed strictly as a number | the bytes are parsed as the same number |
-//! | spelled | the same | printed, grouped or not, this number has the bytes |
+//! | canonical | the same | printed, grouped or not, this number has the bytes |
 //! | ambiguous | all | the bytes are refused for the format alone exactly if `reads_back` is false of it |
 //! | strict again | with a format of which `reads_back` is true | the printed number, grouped or not, is parsed strictly as the same number |
-//! | decimal spelled | whose bytes are parsed as a decimal | printed, grouped or not, this decimal has the bytes |
+//! | decimal canonical | whose bytes are parsed as a decimal | printed, grouped or not, this decimal has the bytes |
 //! | decimal ambiguous | all | the bytes are refused as a decimal for the format alone exactly if `marks_decimals` is false of it |
 //! | decimal again | with a format of which `marks_decimals` is true | the printed decimal, grouped or not, is parsed as one of the same units and scale |
 //! | builds | all | the custom format has the texts and the grouping that the builder received |
@@ -26,9 +26,9 @@ ghost use Rattle.std.specs.Prelude.{◌≤◌};
 use crate::input::Input;
 use crate::properties::{
     are_ways_alike, finds_or_refuses, has_length, ignores_appended, is_ambiguous,
-    is_buffer_alike_in_json, is_decimal_ambiguous, is_decimal_parsed, is_decimal_spelled,
-    is_format_alike_in_json, is_found_by_its_name, is_locale_alike_in_json, is_parsed_strictly,
-    is_parsed_too, is_spelled, parses_or_refuses,
+    is_buffer_alike_in_json, is_canonical, is_canonical_decimal, is_decimal_ambiguous,
+    is_decimal_parsed, is_format_alike_in_json, is_found_by_its_name, is_locale_alike_in_json,
+    is_parsed_strictly, is_parsed_too, parses_or_refuses,
 };
 use num_format::parsing::FromFormattedStr;
 use num_format::{Buffer, CustomFormat, Format, ToFormattedString, reads_back};
@@ -41,8 +41,8 @@ use std::num::{NonZeroU8, NonZeroU16, NonZeroU32, NonZeroU64, NonZeroU128, NonZe
 /// The properties, in the order of their outcomes.
 #[rattlefmt::skip]
 pub const PROPERTIES: [&str; 19] = [
-    "ways", "length", "reads back", "refused", "parses", "appended", "strict", "spelled", "ambiguous", "strict again",
-    "decimal spelled", "decimal ambiguous", "decimal again", "builds", "finds", "own name", "json buffer",
+    "ways", "length", "reads back", "refused", "parses", "appended", "strict", "canonical", "ambiguous", "strict again",
+    "decimal canonical", "decimal ambiguous", "decimal again", "builds", "finds", "own name", "json buffer",
     "json format", "json locale",
 ];
 
@@ -134,10 +134,10 @@ impl<F: Format> Check<'_, F> {
             Some(parses_or_refuses(text, N::from_formatted_str(text, format).err())),
             Some(ignores_appended::<N, F>(alloc, text, format)?),
             is_parsed_too::<N, F>(bytes, format),
-            is_spelled::<N, F>(bytes, format),
+            is_canonical::<N, F>(bytes, format),
             Some(is_ambiguous::<N, F>(bytes, format) != reads_back),
             reads_back.then_some(is_parsed_strictly(number, format)),
-            is_decimal_spelled(bytes, format),
+            is_canonical_decimal(bytes, format),
             Some(is_decimal_ambiguous(bytes, format) != marks),
             marks.then_some(is_decimal_parsed(input.decimal, format)),
             Some(input.is_built(custom)),

@@ -132,13 +132,13 @@ where
 
 /// Returns whether a number that the bytes are parsed to strictly is printed as the bytes, grouped or
 /// not. None where they are refused strictly.
-pub fn is_spelled<N, F>(bytes: &[u8], format: &F) -> Option<bool>
+pub fn is_canonical<N, F>(bytes: &[u8], format: &F) -> Option<bool>
 where
     N: FromFormattedStr + ToFormattedStr + Copy,
     F: Format,
 {
     let number: N = N::from_strict_bytes(bytes, format).ok()?;
-    let [grouped, ungrouped] = spellings(&number, format);
+    let [grouped, ungrouped] = canonical_texts_of(&number, format);
     Some(grouped.as_bytes() == bytes || ungrouped.as_bytes() == bytes)
 }
 
@@ -157,13 +157,13 @@ where
     N: FromFormattedStr + ToFormattedStr + PartialEq + Copy,
     F: Format,
 {
-    let [grouped, ungrouped] = spellings(&number, format);
+    let [grouped, ungrouped] = canonical_texts_of(&number, format);
     N::from_strict_str(grouped.as_str(), format) == Ok(number)
         && N::from_strict_str(ungrouped.as_str(), format) == Ok(number)
 }
 
 /// Returns the texts of a number under a format, and under that format without grouping.
-fn spellings<N: ToFormattedStr, F: Format>(number: &N, format: &F) -> [Buffer; 2] {
+fn canonical_texts_of<N: ToFormattedStr, F: Format>(number: &N, format: &F) -> [Buffer; 2] {
     [
         Buffer::of(number, format),
         Buffer::of(number, &ungrouped(format)),
@@ -172,9 +172,9 @@ fn spellings<N: ToFormattedStr, F: Format>(number: &N, format: &F) -> [Buffer; 2
 
 /// Returns whether a decimal that the bytes are parsed to is printed as the bytes, grouped or not. None
 /// where they are refused.
-pub fn is_decimal_spelled<F: Format>(bytes: &[u8], format: &F) -> Option<bool> {
+pub fn is_canonical_decimal<F: Format>(bytes: &[u8], format: &F) -> Option<bool> {
     let decimal = Decimal::from_strict_bytes(bytes, format).ok()?;
-    let [grouped, ungrouped] = decimal_spellings(&decimal, format);
+    let [grouped, ungrouped] = canonical_decimals_of(&decimal, format);
     Some(grouped.as_bytes() == bytes || ungrouped.as_bytes() == bytes)
 }
 
@@ -188,13 +188,13 @@ pub fn is_decimal_parsed<F: Format>(decimal: Decimal, format: &F) -> bool {
     let is_same = |parsed: Decimal| {
         parsed.units() == decimal.units() && parsed.scale() == decimal.scale()
     };
-    let [grouped, ungrouped] = decimal_spellings(&decimal, format);
+    let [grouped, ungrouped] = canonical_decimals_of(&decimal, format);
     grouped.as_str().parse_decimal(format).is_ok_and(is_same)
         && ungrouped.as_str().parse_decimal(format).is_ok_and(is_same)
 }
 
 /// Returns the texts of a decimal under a format, and under that format without grouping.
-fn decimal_spellings<F: Format>(decimal: &Decimal, format: &F) -> [DecimalBuffer; 2] {
+fn canonical_decimals_of<F: Format>(decimal: &Decimal, format: &F) -> [DecimalBuffer; 2] {
     [
         DecimalBuffer::of(decimal, format),
         DecimalBuffer::of(decimal, &ungrouped(format)),

@@ -66,8 +66,8 @@ impl Money {
         Decimal::new(self.minor_units, self.currency.decimals()).unwrap()
     }
 
-    /// Returns the amount that a text spells: it is exactly as an amount is printed, with separators or without,
-    /// and has any number of decimals that loses none.
+    /// Returns the amount for which a text is canonical: it is exactly as an amount is printed, with separators or
+    /// without, and has any number of decimals that loses none.
     ///
     /// ```rust
     /// Money::parse("1,234.5", Currency::Usd, &Locale::en)      // Ok(Money { minor_units: 123450, currency: Usd })

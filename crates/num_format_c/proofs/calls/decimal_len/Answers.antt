@@ -1,6 +1,6 @@
 use Rattle.std.proofs.Common.{◌≡◌, pos, length, to_z, w32, rules}
 use Rattle.num_format_decimal.specs.Text.{decimal_text}
-use Rattle.num_format_c.specs.Held.{format_of}
+use Rattle.num_format_c.specs.FormatRef.{format_of}
 use Rattle.num_format_c.proofs.DigitLemmas.{returns_latin}
 use Rattle.num_format_c.proofs.calls.decimal_len.Goals as goal
 

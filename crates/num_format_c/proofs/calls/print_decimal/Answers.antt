@@ -1,7 +1,7 @@
 use Rattle.std.proofs.Common.{arith, rules, subst}
 use Rattle.num_format_decimal.specs.Text.{decimal_text}
 use Rattle.num_format_c.specs.Calls.{PrintsText, Writes, returned}
-use Rattle.num_format_c.specs.Held.{format_of}
+use Rattle.num_format_c.specs.FormatRef.{format_of}
 use Rattle.num_format_c.proofs.DigitLemmas.{prints_latin}
 use Rattle.num_format_c.proofs.calls.print_decimal.Goals as goal
 

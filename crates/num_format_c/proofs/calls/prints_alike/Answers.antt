@@ -1,7 +1,7 @@
 use Rattle.std.proofs.Common.{◌≡◌, rules}
 use Rattle.std.specs.Prelude.{◌↔◌, IsTrue}
 use Rattle.num_format.specs.Alike.{Alike}
-use Rattle.num_format_c.specs.Held.{HasFormat, digits_of, format_of}
+use Rattle.num_format_c.specs.FormatRef.{HasFormat, digits_of, format_of}
 use Rattle.num_format_c.proofs.CallLemmas.{told}
 use Rattle.num_format_c.proofs.calls.prints_alike.Goals as goal
 

@@ -1,6 +1,6 @@
 use Rattle.std.proofs.Common.{rules}
 use Rattle.num_format.specs.RoundTrips.{RoundTrips}
-use Rattle.num_format_c.specs.Held.{HasLatin, format_of}
+use Rattle.num_format_c.specs.FormatRef.{HasLatin, format_of}
 use Rattle.num_format_c.proofs.CallLemmas.{told}
 use Rattle.num_format_c.proofs.calls.reads_back.Goals as goal
 

@@ -3,7 +3,7 @@ use Rattle.std.specs.Char.{is_ascii_digit}
 use Rattle.std.specs.Int.Digits.{number_from_digits}
 use Rattle.std.specs.List.{list_all}
 use Rattle.std.proofs.lemmas.List.Folds.{list_all_at}
-use Rattle.num_format_parsing.specs.Shapes.{byte_figures}
+use Rattle.num_format_parsing.specs.Shapes.{byte_digits}
 use Rattle.num_format_decimal.proofs.ReadLemmas.{digit_bounds, few_fit, one_more_digit}
 use Rattle.num_format_decimal.proofs.reading.read_digits.Goals as goal
 
@@ -44,5 +44,5 @@ returns c =
     let whole : take l.byte-index t ≡ t = take_all l.byte-index t c.loop-byte-test.false in (
       sym (ap (list_all is_ascii_digit) whole) ∙ l.invariant.all,
       l.invariant.number
-          ∙ ap (λ xs. number_from_digits 10 (byte_figures xs)) whole,
+          ∙ ap (λ xs. number_from_digits 10 (byte_digits xs)) whole,
     )

@@ -1,7 +1,7 @@
 use Rattle.std.proofs.Common.{◌≡◌, ◌<◌, ◌∙◌, true, false, ap, get_or, length, sym, arith}
 use Rattle.std.proofs.lemmas.Bool.{both_ways}
 use Rattle.std.proofs.lemmas.Bool.Decides.{nat_tests}
-use Rattle.num_format_parsing.proofs.FigureLemmas.{begins-at, begin-digit}
+use Rattle.num_format_parsing.proofs.DigitLemmas.{begins-at, begin-digit}
 use Rattle.num_format_parsing.proofs.bytes.begins_with_digit.Goals as goal
 
 pub returns-then-is_empty : goal.returns-then-is_empty

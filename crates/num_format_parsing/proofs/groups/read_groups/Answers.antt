@@ -12,7 +12,7 @@ returns-then-first-size g c =
     λ whole. omega (
       arith,
       c.if-first-size.true,
-      first-long a.last a.size a.separator.now a.text.now a.first.figures r.separator r.plain
+      first-long a.last a.size a.separator.now a.text.now a.first.digit_count r.separator r.plain
           r.begin whole,
       whole.few,
     )
@@ -23,8 +23,8 @@ loop-end-init g c =
     let r = c.requires in
     record {
       within = omega (arith, r.begin.inside);
-      left = left-first a.last a.size a.separator.now a.text.now a.first.figures r.separator r.plain r.begin c.if-first-size.false;
-      read = read-first g.A.Accumulator.bound a.text.now a.first.figures (g.A.Accumulator.number a.first.magnitude)
+      left = left-first a.last a.size a.separator.now a.text.now a.first.digit_count r.separator r.plain r.begin c.if-first-size.false;
+      read = read-first g.A.Accumulator.bound a.text.now a.first.digit_count (g.A.Accumulator.number a.first.magnitude)
           (omega (arith, r.begin.inside)) r.read;
     }
 
@@ -57,9 +57,9 @@ loop-end-preserved g c =
     record {
       within = omega (arith, c.loop-end-test.true, c.requires.size.1);
       left = subst (IsLeft a.last a.size s t) on (left-more a.last a.size s t (drop l.end t) l.invariant.left long appends.found);
-      read = subst (λ x. IsReadTo bound t x next.figures more) on
+      read = subst (λ x. IsReadTo bound t x next.digit_count more) on
           (subst (λ k. IsReadTo bound t (drop step (drop l.end t)) k more) (sym c.in_ok-next.ensures.0)
-          (read-more bound s a.size t (drop l.end t) l.part.figures n more c.requires.plain l.invariant.read appends));
+          (read-more bound s a.size t (drop l.end t) l.part.digit_count n more c.requires.plain l.invariant.read appends));
     }
 
 pub returns-then-text-end : goal.returns-then-text-end
@@ -83,7 +83,7 @@ returns g c =
     (λ lacks. lacks-last a.last a.size s t (drop l.end t) l.invariant.left c.requires.size.0 long
     (subst (λ x. ¬ (BeginsWithGroup s a.last x (drop (length s + a.last) x))) (take_rest t l.end) lacks))
     (λ whole read. subst (λ k. IsInGroups a.last a.size s t × HasDigits bound t k (g.A.Accumulator.number whole.magnitude)) (sym read.0)
-    (read-last a.last a.size s t (drop l.end t) l.invariant.left bound l.part.figures n
+    (read-last a.last a.size s t (drop l.end t) l.invariant.left bound l.part.digit_count n
     (g.A.Accumulator.number whole.magnitude) c.requires.plain long l.invariant.read
     (subst (λ x. AppendsGroup bound s a.last x n (g.A.Accumulator.number whole.magnitude)) (take_rest t l.end) read.1)))
     c.push_group-2.ensures

@@ -10,7 +10,7 @@ returns-then-first-text g c =
     let t = c.args.text.now in
     let first = c.read_digits-first.result in
     let read = c.read_digits-first.ensures in
-    let all : take first.figures t ≡ t = take_all first.figures t (omega (arith, c.if-first-text.true)) in (
+    let all : take first.digit_count t ≡ t = take_all first.digit_count t (omega (arith, c.if-first-text.true)) in (
       inr (plain-all t (ap (list_all is_ascii_digit) (sym all) ∙ read.digits)),
-      subst (λ x. HasDigits g.A.Accumulator.bound x first.figures (g.A.Accumulator.number first.magnitude)) all read.read,
+      subst (λ x. HasDigits g.A.Accumulator.bound x first.digit_count (g.A.Accumulator.number first.magnitude)) all read.read,
     )

@@ -3,8 +3,8 @@ use Rattle.std.specs.Prelude.{if◌then◌else◌}
 use Rattle.std.specs.List.{starts_with}
 use Rattle.num_format_text.specs.Format.{FormatData}
 use Rattle.num_format_int.specs.Kind.{Kind}
-use Rattle.num_format_parsing.specs.Reading.{figures, is_negative_text, magnitude_of, signed_number, IsSignedValueOf, Refused, no_digit}
-use Rattle.num_format_parsing.specs.Reading.{other_numeral, too_many_figures, no_value}
+use Rattle.num_format_parsing.specs.Reading.{text_digits, is_negative_text, magnitude_of, signed_number, IsSignedValueOf, Refused, no_digit}
+use Rattle.num_format_parsing.specs.Reading.{other_numeral, too_many_digits, no_value}
 use Rattle.num_format_parsing.proofs.laws.minus_sign_decides.Goals as goal
 
 -- formats with one minus sign find the same texts negative
@@ -18,7 +18,7 @@ same_refused k f g text same refused =
     elim refused [
       | no_digit none ↦ no_digit none
       | other_numeral some ↦ other_numeral some
-      | too_many_figures many ↦ too_many_figures (subst (λ b. k.limit < length (figures text) + (if b then 1 else 0)) sign many)
+      | too_many_digits many ↦ too_many_digits (subst (λ b. k.limit < length (text_digits text) + (if b then 1 else 0)) sign many)
       | no_value none ↦ no_value (subst (λ b. ¬ (IsSignedValueOf k b (magnitude_of text))) sign none)
     ]
 

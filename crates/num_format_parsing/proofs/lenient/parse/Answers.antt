@@ -1,5 +1,5 @@
 use Rattle.std.proofs.Common.{◌∙◌, sym, subst}
-use Rattle.num_format_parsing.specs.Parts.{IsSpelling}
+use Rattle.num_format_parsing.specs.Parts.{IsCanonicalReading}
 use Rattle.num_format_parsing.proofs.ToldLemmas.{denotes, refuses-large}
 use Rattle.num_format_parsing.proofs.lenient.parse.Goals as goal
 
@@ -15,10 +15,10 @@ returns-in-Some g c =
 pub returns-in-Number : goal.returns-in-Number
 returns-in-Number g c =
     let f = g.F.Format.answers c.args.format.now in
-    let read = subst (IsSpelling g.N.Sealed.kind f c.args.bytes.now c.read_spelled-is_negative.result.0) c.in-Number.is
-    c.read_spelled-is_negative.ensures in
+    let read = subst (IsCanonicalReading g.N.Sealed.kind f c.args.bytes.now c.read_canonical-is_negative.result.0) c.in-Number.is
+    c.read_canonical-is_negative.ensures in
     let made = c.from_sign_and_magnitude-in-Number.ensures in
-    denotes g.N.Sealed.kind g.N.Sealed.value f c.args.bytes.now c.read_spelled-is_negative.result.0 c.in-Number.magnitude
+    denotes g.N.Sealed.kind g.N.Sealed.value f c.args.bytes.now c.read_canonical-is_negative.result.0 c.in-Number.magnitude
     c.from_sign_and_magnitude-in-Number.result
     (record { limit = sym c.limit.ensures.limit ∙ c.limit.ensures.longest; low = c.limit.ensures.low; unsigned = made.unsigned }) read
     made.value
@@ -26,6 +26,6 @@ returns-in-Number g c =
 pub returns-in-TooLarge : goal.returns-in-TooLarge
 returns-in-TooLarge g c =
     let f = g.F.Format.answers c.args.format.now in
-    refuses-large g.N.Sealed.kind f c.args.bytes.now c.read_spelled-is_negative.result.0
-    (subst (IsSpelling g.N.Sealed.kind f c.args.bytes.now c.read_spelled-is_negative.result.0) c.in-TooLarge.is
-    c.read_spelled-is_negative.ensures)
+    refuses-large g.N.Sealed.kind f c.args.bytes.now c.read_canonical-is_negative.result.0
+    (subst (IsCanonicalReading g.N.Sealed.kind f c.args.bytes.now c.read_canonical-is_negative.result.0) c.in-TooLarge.is
+    c.read_canonical-is_negative.ensures)

@@ -2,7 +2,7 @@ use Rattle.std.proofs.Common.{◌∙◌, drop, ap, sym, subst, arith}
 use Rattle.num_format_int.specs.Grouped.{printed_separator}
 use Rattle.num_format_parsing.specs.Shapes.{HasSign}
 use Rattle.num_format_parsing.specs.Strict.{unread}
-use Rattle.num_format_parsing.proofs.FigureLemmas.{figures-bytes, figures-none, figures-some}
+use Rattle.num_format_parsing.proofs.DigitLemmas.{text_digits-bytes, text_digits-none, text_digits-some}
 use Rattle.num_format_decimal.proofs.CauseLemmas.{expected_of}
 use Rattle.num_format_decimal.proofs.parser.DecimalParser.cause.Goals as goal
 
@@ -20,7 +20,7 @@ pub returns-then-at-text : goal.returns-then-at-text
 returns-then-at-text g c = (
   c.mark.ensures.marks,
   record {
-    spells_none = record { utf8 = c.is_utf8.ensures.0 c.if-not-is_utf8.false; none = c.requires.unspelled };
+    is_not_canonical = record { utf8 = c.is_utf8.ensures.0 c.if-not-is_utf8.false; none = c.requires.not_canonical };
     inside = c.if-at-text.true;
     rest = c.decimals_end-at.ensures.rest;
   },
@@ -31,13 +31,13 @@ returns-then-not-has_digit g c =
     let t = c.args.text.now in
     let utf8 = c.is_utf8.ensures.0 c.if-not-is_utf8.false in
     let expected =
-    expected_of c.args.self.now t c.decimals_end-at.result.0 utf8 c.requires.unspelled c.decimals_end-at.ensures.rest c.if-at-text.false
+    expected_of c.args.self.now t c.decimals_end-at.result.0 utf8 c.requires.not_canonical c.decimals_end-at.ensures.rest c.if-at-text.false
     in (
       c.mark.ensures.marks,
       record {
         expected = expected;
-        fault = figures-bytes t utf8
-            ∙ figures-none t (sym c.has_digit.ensures ∙ c.if-not-has_digit.true);
+        fault = text_digits-bytes t utf8
+            ∙ text_digits-none t (sym c.has_digit.ensures ∙ c.if-not-has_digit.true);
       },
     )
 
@@ -46,13 +46,13 @@ returns-then-decimals g c =
     let t = c.args.text.now in
     let utf8 = c.is_utf8.ensures.0 c.if-not-is_utf8.false in
     let expected =
-    expected_of c.args.self.now t c.decimals_end-at.result.0 utf8 c.requires.unspelled c.decimals_end-at.ensures.rest c.if-at-text.false
+    expected_of c.args.self.now t c.decimals_end-at.result.0 utf8 c.requires.not_canonical c.decimals_end-at.ensures.rest c.if-at-text.false
     in (
       c.mark.ensures.marks,
       record {
         expected = expected;
         fault = (
-          λ none. figures-some t (sym c.has_digit.ensures ∙ c.if-not-has_digit.false) (sym (figures-bytes t utf8) ∙ none),
+          λ none. text_digits-some t (sym c.has_digit.ensures ∙ c.if-not-has_digit.false) (sym (text_digits-bytes t utf8) ∙ none),
           omega (arith, c.if-decimals.true, c.decimals_end-at.ensures.decimals),
         );
       },
@@ -63,13 +63,13 @@ returns g c =
     let t = c.args.text.now in
     let utf8 = c.is_utf8.ensures.0 c.if-not-is_utf8.false in
     let expected =
-    expected_of c.args.self.now t c.decimals_end-at.result.0 utf8 c.requires.unspelled c.decimals_end-at.ensures.rest c.if-at-text.false
+    expected_of c.args.self.now t c.decimals_end-at.result.0 utf8 c.requires.not_canonical c.decimals_end-at.ensures.rest c.if-at-text.false
     in (
       c.mark.ensures.marks,
       record {
         expected = expected;
         fault = (
-          λ none. figures-some t (sym c.has_digit.ensures ∙ c.if-not-has_digit.false) (sym (figures-bytes t utf8) ∙ none),
+          λ none. text_digits-some t (sym c.has_digit.ensures ∙ c.if-not-has_digit.false) (sym (text_digits-bytes t utf8) ∙ none),
           omega (arith, c.if-decimals.false, c.decimals_end-at.ensures.decimals),
         );
       },

@@ -8,8 +8,8 @@ use Rattle.num_format_decimal.proofs.parser.DecimalParser.mark_place.Goals.{then
 use Rattle.num_format_decimal.proofs.parser.DecimalParser.mark_place.Goals.{then-count-eq0-via-else-count-eq0+then-count}
 
 pub returns-then-count-eq0 : goal.returns-then-count-eq0
-returns-then-count-eq0 g c = λ d some few spells.
-    let same = scale_counted c.args.self.now c.args.text.now d c.mark-mark.ensures.plain some spells
+returns-then-count-eq0 g c = λ d some few is_canonical.
+    let same = scale_counted c.args.self.now c.args.text.now d c.mark-mark.ensures.plain some is_canonical
     ∙ sym c.trailing_digits-count.ensures.value in
     elim c.then-count-eq0.branch [
       | then-count-eq0-via-then-count-eq0 w ↦ absurd (omega (arith, w.if-count-eq0.true, same, some))
@@ -17,27 +17,27 @@ returns-then-count-eq0 g c = λ d some few spells.
     ]
 
 pub returns-in_err-place : goal.returns-in_err-place
-returns-in_err-place g c = rw c.from_residual.ensures (λ d some few spells.
-    let same = scale_counted c.args.self.now c.args.text.now d c.mark-mark.ensures.plain some spells
+returns-in_err-place g c = rw c.from_residual.ensures (λ d some few is_canonical.
+    let same = scale_counted c.args.self.now c.args.text.now d c.mark-mark.ensures.plain some is_canonical
     ∙ sym c.trailing_digits-count.ensures.value in
     absurd (omega (
       arith,
       c.in_err-place.ensures,
       same,
       ap length c.mark-mark.ensures.same,
-      mark_fits c.args.self.now c.args.text.now d c.mark-mark.ensures.plain some spells,
+      mark_fits c.args.self.now c.args.text.now d c.mark-mark.ensures.plain some is_canonical,
     )))
 
 pub returns-then-not-begins_with : goal.returns-then-not-begins_with
-returns-then-not-begins_with g c = λ d some few spells.
+returns-then-not-begins_with g c = λ d some few is_canonical.
     let f = c.args.self.now in
     let t = c.args.text.now in
     let place = c.in_ok-place.place in
-    let same = scale_counted f t d c.mark-mark.ensures.plain some spells ∙ sym c.trailing_digits-count.ensures.value in
+    let same = scale_counted f t d c.mark-mark.ensures.plain some is_canonical ∙ sym c.trailing_digits-count.ensures.value in
     let other : begins f.decimal (drop place t) ≡ false =
     ap (λ m. begins m (drop place t)) (sym (c.as_bytes.ensures.value ∙ c.mark-mark.ensures.same))
     ∙ ap (begins c.as_bytes.result.now) (sym (take_rest t place)) ∙ sym c.begins_with.ensures ∙ c.if-not-begins_with.true in
-    both_ways _ other (mark_there f t d c.mark-mark.ensures.plain some spells place
+    both_ways _ other (mark_there f t d c.mark-mark.ensures.plain some is_canonical place
     (omega (arith, c.in_ok-place.ensures, same, ap length c.mark-mark.ensures.same, c.trailing_digits-count.ensures.within)))
 
 pub returns : goal.returns

@@ -17,10 +17,10 @@ returns-in-TooLarge g c =
     let large = subst (λ x. HasReading f t (λ scale. scale ≤ MAX_SCALE) (Err x)) c.in-TooLarge.is c.in-Err.ensures in
     result-judged f t c.mark.ensures.plain c.mark.ensures.marks (Err cause.OutOfRange) (c.mark.ensures.marks, large)
 
-pub cause-requires-clause-unspelled : goal.cause-requires-clause-unspelled
-cause-requires-clause-unspelled g c =
-    subst (λ x. HasReading c.args.self.now c.args.text.now (λ scale. scale ≤ MAX_SCALE) (Err x)) c.in-Unspelled.is c.in-Err.ensures
+pub cause-requires-clause-not_canonical : goal.cause-requires-clause-not_canonical
+cause-requires-clause-not_canonical g c =
+    subst (λ x. HasReading c.args.self.now c.args.text.now (λ scale. scale ≤ MAX_SCALE) (Err x)) c.in-NotCanonical.is c.in-Err.ensures
 
-pub returns-in-Unspelled : goal.returns-in-Unspelled
-returns-in-Unspelled g c = result-judged c.args.self.now c.args.text.now c.mark.ensures.plain c.mark.ensures.marks
+pub returns-in-NotCanonical : goal.returns-in-NotCanonical
+returns-in-NotCanonical g c = result-judged c.args.self.now c.args.text.now c.mark.ensures.plain c.mark.ensures.marks
     (Err c.cause.result) c.cause.ensures

@@ -9,7 +9,7 @@ returns-in-Ok-rescale g c =
     let parsed = subst (DecimalResult c.args.self.now c.args.bytes.now) c.in-Ok.is c.parse_bytes.ensures in
     scaled-judged c.args.self.now c.args.bytes.now c.args.scale _ parsed (Ok c.in-Ok-rescale.rescaled)
     (record {
-      spelled = c.in-Ok.decimal;
+      canonical = c.in-Ok.decimal;
       parses = (parsed.decimal c.in-Ok.decimal).0 refl;
       can = c.in-Ok-rescale.ensures.accepted;
       same = c.in-Ok-rescale.ensures.decimal;
@@ -19,7 +19,7 @@ pub returns-in-Err-rescale : goal.returns-in-Err-rescale
 returns-in-Err-rescale g c =
     let parsed = subst (DecimalResult c.args.self.now c.args.bytes.now) c.in-Ok.is c.parse_bytes.ensures in
     scaled-judged c.args.self.now c.args.bytes.now c.args.scale _ parsed (Err (Rescale c.in-Err-rescale.error))
-    (record { spelled = c.in-Ok.decimal; parses = (parsed.decimal c.in-Ok.decimal).0 refl; cannot = c.in-Err-rescale.ensures.refused })
+    (record { canonical = c.in-Ok.decimal; parses = (parsed.decimal c.in-Ok.decimal).0 refl; cannot = c.in-Err-rescale.ensures.refused })
 
 pub returns-in-Err : goal.returns-in-Err
 returns-in-Err g c =

@@ -9,7 +9,7 @@ use Rattle.num_format_parsing.proofs.CommonLemmas.{of_printed}
 use Rattle.num_format_parsing.proofs.SymbolLemmas.{plain-symbols}
 use Rattle.num_format_digits.specs.Digits.{IsZero, in_digits}
 use Rattle.num_format_digits.specs.Parsing.{ParsesInDigits}
-use Rattle.num_format_digits.proofs.TextLemmas.{spelled_back}
+use Rattle.num_format_digits.proofs.TextLemmas.{canonical_back}
 use Rattle.num_format_digits.proofs.digits.Digits.parse_shown.Goals as goal
 
 -- the number of a text that is shown
@@ -19,7 +19,7 @@ number : {A : Type 0} (R : Type 0) (k : Kind) (value : A → ℤ) (f d : FormatD
 number R k value f d z t a None is symbols format same parsed = tt
 number R k value f d z t a (Some n) is symbols format same parsed =
     let read = subst (λ g. ParsesStrictly k value g a (Ok n)) format parsed in
-    let back = spelled_back z f t a (value n) is symbols ((read.number (value n)).1 refl) same in
+    let back = canonical_back z f t a (value n) is symbols ((read.number (value n)).1 refl) same in
     (back.0, (back.1, subst (λ x. ParsesStrictly k value f x (Ok n)) (sym back.2) read))
 
 pub returns : goal.returns

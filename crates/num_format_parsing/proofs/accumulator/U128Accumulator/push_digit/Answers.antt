@@ -5,13 +5,13 @@ use Rattle.num_format_parsing.proofs.accumulator.U128Accumulator.push_digit.Goal
 pub overflow_mul-result : goal.overflow_mul-result
 overflow_mul-result c = omega (
   arith,
-  fits_bound 38 (2 ^ 128) c.args.self c.args.figures c.args.digit
-      (omega arith) c.requires.figures c.requires.digit c.if-figures-lt-SAFE_WIDE_FIGURES.true,
+  fits_bound 38 (2 ^ 128) c.args.self c.args.digit_count c.args.digit
+      (omega arith) c.requires.digit_count c.requires.digit c.if-digit_count-lt-SAFE_WIDE_DIGITS.true,
 )
 
 pub overflow_add-result : goal.overflow_add-result
 overflow_add-result c = omega (
   arith,
-  fits_bound 38 (2 ^ 128) c.args.self c.args.figures c.args.digit
-      (omega arith) c.requires.figures c.requires.digit c.if-figures-lt-SAFE_WIDE_FIGURES.true,
+  fits_bound 38 (2 ^ 128) c.args.self c.args.digit_count c.args.digit
+      (omega arith) c.requires.digit_count c.requires.digit c.if-digit_count-lt-SAFE_WIDE_DIGITS.true,
 )

@@ -30,14 +30,14 @@ returns-in-TooLarge g c =
     let sign = c.sign-sign.ensures in
     let negative = c.sign-sign.result.is_negative in
     let read = subst (HasReading g.N.Sealed.kind f t negative) c.in-TooLarge.is c.read.ensures in
-    let why : IsOutOfRange g.N.Sealed.kind f t = record { number = signed_number negative read.0; spelled = read.2; wrong = read.1 } in
+    let why : IsOutOfRange g.N.Sealed.kind f t = record { number = signed_number negative read.0; canonical = read.2; wrong = read.1 } in
     (cause.OutOfRange, parses-judged g.N.Sealed.kind g.N.Sealed.value f t _ sign.symbols (sign.symbols.unambiguous, why))
 
-pub returns-in-Unspelled : goal.returns-in-Unspelled
-returns-in-Unspelled g c =
+pub returns-in-NotCanonical : goal.returns-in-NotCanonical
+returns-in-NotCanonical g c =
     let f = c.args.self.now in
     let t = c.args.bytes.now in
     let sign = c.sign-sign.ensures in
-    let read = subst (HasReading g.N.Sealed.kind f t c.sign-sign.result.is_negative) c.in-Unspelled.is c.read.ensures in
+    let read = subst (HasReading g.N.Sealed.kind f t c.sign-sign.result.is_negative) c.in-NotCanonical.is c.read.ensures in
     let why = cause-given g.N.Sealed.kind f t sign.symbols read in
     (why.0, parses-judged g.N.Sealed.kind g.N.Sealed.value f t (Err why.0) sign.symbols why.1)

@@ -20,13 +20,13 @@ returns-in-TooLarge g c =
     let read = subst (HasReading g.N.Sealed.kind f c.args.bytes.now negative) c.in-TooLarge.is c.read.ensures in
     parses-judged g.N.Sealed.kind g.N.Sealed.value f c.args.bytes.now _ sign.symbols (
       sign.symbols.unambiguous,
-      record { number = signed_number negative read.0; spelled = read.2; wrong = read.1 },
+      record { number = signed_number negative read.0; canonical = read.2; wrong = read.1 },
     )
 
-pub returns-in-Unspelled : goal.returns-in-Unspelled
-returns-in-Unspelled g c =
+pub returns-in-NotCanonical : goal.returns-in-NotCanonical
+returns-in-NotCanonical g c =
     let f = c.args.self.now in
     let sign = c.sign-sign.ensures in
-    let read = subst (HasReading g.N.Sealed.kind f c.args.bytes.now c.sign-sign.result.is_negative) c.in-Unspelled.is c.read.ensures in
+    let read = subst (HasReading g.N.Sealed.kind f c.args.bytes.now c.sign-sign.result.is_negative) c.in-NotCanonical.is c.read.ensures in
     parses-judged g.N.Sealed.kind g.N.Sealed.value f c.args.bytes.now _ sign.symbols
     (c.cause.ensures f sign.symbols (c.as_bytes.ensures.value ∙ c.separator.ensures.same) sign.long read g.N.Sealed.kind)

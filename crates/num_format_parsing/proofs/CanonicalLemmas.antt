@@ -1,4 +1,4 @@
--- The texts that spell a number.
+-- The texts that are canonical for a number.
 use Rattle.std.proofs.Common.{◌≡◌, ℕ, zero, suc, ◌+◌, ◌-◌, ◌%◌, ◌<◌, ◌⊎◌, inl, inr, Bool, true, false, List, [], ◌∷◌, ◌++◌, length, refl}
 use Rattle.std.proofs.Common.{ap, ◌∙◌, sym, arith, take, drop, length-append, lit<, subst, ℤ, pos, negsuc, unsigned_abs, IsUtf8}
 use Rattle.std.specs.Prelude.{if◌then◌else◌, nat_eq}
@@ -27,12 +27,12 @@ use Rattle.num_format_int.proofs.DigitLemmas.{AreDigits, by_digits, digits-below
 use Rattle.num_format_int.proofs.DigitLemmas.{number_from_digits-digits}
 use Rattle.num_format_int.proofs.GroupedLemmas.{grouped-Posix, grouped-printed, grouped-short, of_either}
 use Rattle.num_format_parsing.specs.Parts.{number_in, IsBody, HasBody, HasReading}
-use Rattle.num_format_parsing.specs.Reading.{figures, is_negative_text, is_other_numeral, signed_number}
-use Rattle.num_format_parsing.specs.Strict.{SpellsNumber, with_separators, without_separators, ungrouped, sign_len, unexpected, unread}
-use Rattle.num_format_parsing.specs.Shapes.{byte_figures, BeginsWithDigit, HasPlainSymbols, HasSign}
+use Rattle.num_format_parsing.specs.Reading.{text_digits, is_negative_text, is_other_numeral, signed_number}
+use Rattle.num_format_parsing.specs.Strict.{IsCanonical, with_separators, without_separators, ungrouped, sign_len, unexpected, unread}
+use Rattle.num_format_parsing.specs.Shapes.{byte_digits, BeginsWithDigit, HasPlainSymbols, HasSign}
 use Rattle.num_format_parsing.specs.declared.reading.Reading.{Reading}
-use Rattle.num_format_parsing.specs.declared.reading.Reading.TheVariants.{Number, TooLarge, Unspelled}
-use Rattle.num_format_parsing.proofs.FigureLemmas.{figures-bytes, writes}
+use Rattle.num_format_parsing.specs.declared.reading.Reading.TheVariants.{Number, TooLarge, NotCanonical}
+use Rattle.num_format_parsing.proofs.DigitLemmas.{text_digits-bytes, writes}
 use Rattle.num_format_parsing.proofs.GroupsLemmas.{plain-all}
 use Rattle.num_format_parsing.proofs.NumberLemmas.{no_other-bytes}
 use Rattle.num_format_parsing.proofs.ReadingLemmas.{digits_among-append, digits_among-separated, is_ascii_digit-digit}
@@ -66,13 +66,13 @@ text-signed f negative n ds some same =
     (signed-sign negative n (λ _. some))
     ∙ ap (λ ds. (if negative then f.minus_sign else []) ++ grouped f.grouping f.separator ds) (ap digits (signed-abs negative n) ∙ same)
 
--- one zero spells zero
+-- one zero is canonical for zero
 pub text-zero : (g : FormatData) → text_of g (pos 0) ≡ 48 ∷ []
 text-zero g = ap (grouped g.grouping g.separator) (digits-small 0 (lit< tt)) ∙ grouped-short g.grouping g.separator (0 ∷ []) (omega arith)
 
-pub spells-zero : (f : FormatData) (t : List ℕ) (negative : Bool) → t ≡ 48 ∷ [] → SpellsNumber f t (signed_number negative 0)
-spells-zero f t true same = with_separators (same ∙ sym (text-zero f))
-spells-zero f t false same = with_separators (same ∙ sym (text-zero f))
+pub canonical-zero : (f : FormatData) (t : List ℕ) (negative : Bool) → t ≡ 48 ∷ [] → IsCanonical f t (signed_number negative 0)
+canonical-zero f t true same = with_separators (same ∙ sym (text-zero f))
+canonical-zero f t false same = with_separators (same ∙ sym (text-zero f))
 
 -- the digits of z, in the groups of the format or in none, are digits with a separator that has none
 pub record HasDigitsOf (f : FormatData) (z : ℤ) : Type 0 where
@@ -81,13 +81,13 @@ pub record HasDigitsOf (f : FormatData) (z : ℤ) : Type 0 where
   pub is_due : ℕ → Bool
   pub separated_same : body ≡ separated is_due (printed_separator f.grouping f.separator) (digits (unsigned_abs z))
 
--- a text that spells z is these after the sign of z
+-- a text that is canonical for z is these after the sign of z
 pub record IsTextOf (f : FormatData) (t : List ℕ) (z : ℤ) : Type 0 where
   pub of : HasDigitsOf f z
   pub text : t ≡ (if is_negative z then f.minus_sign else []) ++ of.body
 
-pub text-spelled : (f : FormatData) (t : List ℕ) (z : ℤ) → SpellsNumber f t z → IsTextOf f t z
-text-spelled f t z (with_separators same) = record {
+pub text-canonical : (f : FormatData) (t : List ℕ) (z : ℤ) → IsCanonical f t z → IsTextOf f t z
+text-canonical f t z (with_separators same) = record {
   of = record {
     body = grouped f.grouping f.separator (digits (unsigned_abs z));
     either = inl refl;
@@ -96,7 +96,7 @@ text-spelled f t z (with_separators same) = record {
   };
   text = same;
 }
-text-spelled f t z (without_separators same) = record {
+text-canonical f t z (without_separators same) = record {
   of = record {
     body = grouped Posix f.separator (digits (unsigned_abs z));
     either = inr (grouped-Posix f.separator (digits (unsigned_abs z)));
@@ -118,7 +118,7 @@ first-digit is_due s (d ∷ ds) below some = (
   refl,
 )
 
--- a text that spells a number begins with the minus sign exactly if the number is negative
+-- a text that is canonical for a number begins with the minus sign exactly if the number is negative
 pub sign-told : (f : FormatData) (t : List ℕ) (z : ℤ) → HasPlainSymbols f → IsTextOf f t z → is_negative_text f t ≡ is_negative z
 sign-told f t z symbols told =
     let ds = digits (unsigned_abs z) in
@@ -141,12 +141,12 @@ pub record TellsBody (f : FormatData) (t : List ℕ) (negative : Bool) (start : 
   pub sign : negative ≡ is_negative z
   pub of : HasDigitsOf f z
   pub body : drop start t ≡ of.body
-  pub figures : byte_figures (drop start t) ≡ digits (unsigned_abs z)
+  pub digit_count : byte_digits (drop start t) ≡ digits (unsigned_abs z)
 
-pub body-told : (f : FormatData) (t : List ℕ) (negative : Bool) (start : ℕ) (z : ℤ) → HasSign f t negative start → SpellsNumber f t z
+pub body-told : (f : FormatData) (t : List ℕ) (negative : Bool) (start : ℕ) (z : ℤ) → HasSign f t negative start → IsCanonical f t z
     → TellsBody f t negative start z
-body-told f t negative start z sign spells =
-    let told = text-spelled f t z spells in
+body-told f t negative start z sign is_canonical =
+    let told = text-canonical f t z is_canonical in
     let same : negative ≡ is_negative z = sign.tested ∙ sign-told f t z sign.symbols told in
     let text : t ≡ (if negative then f.minus_sign else []) ++ told.of.body = rw same told.text in
     let body : drop start t ≡ told.of.body = append_cancel_left (if negative then f.minus_sign else []) _ _
@@ -155,18 +155,18 @@ body-told f t negative start z sign spells =
       sign = same;
       of = told.of;
       body = body;
-      figures =
-          ap byte_figures (body ∙ told.of.separated_same)
+      text_digits =
+          ap byte_digits (body ∙ told.of.separated_same)
           ∙ digits_among-separated told.of.is_due (printed_separator f.grouping f.separator)
           (digits (unsigned_abs z)) sign.symbols.separator (digits-below_ten (unsigned_abs z));
     }
 
--- digits after a sign spell a number, with the separators of the format or without any
-pub spells-body : (f : FormatData) (t s body : List ℕ) (g : Grouping) (negative : Bool) (start : ℕ) → body ≡ drop start t
+-- digits after a sign are canonical for a number, with the separators of the format or without any
+pub canonical-body : (f : FormatData) (t s body : List ℕ) (g : Grouping) (negative : Bool) (start : ℕ) → body ≡ drop start t
     → HasSign f t negative start → s ≡ printed_separator f.grouping f.separator → g ≡ f.grouping →
-    BeginsWithDigit body → IsBody g s body → SpellsNumber f t (signed_number negative (number_in body))
-spells-body f t s body g negative start behind sign separator grouping begin either =
-    let ds = byte_figures body in
+    BeginsWithDigit body → IsBody g s body → IsCanonical f t (signed_number negative (number_in body))
+canonical-body f t s body g negative start behind sign separator grouping begin either =
+    let ds = byte_digits body in
     let front : List ℕ = if negative then f.minus_sign else [] in
     let split : t ≡ front ++ body = sign-behind f t negative start sign ∙ ap (λ b. front ++ b) (sym behind) in
     let write = writes body begin in
@@ -181,28 +181,28 @@ spells-body f t s body g negative start behind sign separator grouping begin eit
     ]
 
 -- and so do digits alone
-pub spells-digits : (f : FormatData) (t : List ℕ) (negative : Bool) (start n : ℕ) → HasSign f t negative start
+pub canonical-digits : (f : FormatData) (t : List ℕ) (negative : Bool) (start n : ℕ) → HasSign f t negative start
     → BeginsWithDigit (take (length t - start) (drop start t)) → list_all is_ascii_digit (take (length t - start) (drop start t)) ≡ true →
-    n ≡ number_in (take (length t - start) (drop start t)) → SpellsNumber f t (signed_number negative n)
-spells-digits f t negative start n sign begin digits same =
+    n ≡ number_in (take (length t - start) (drop start t)) → IsCanonical f t (signed_number negative n)
+canonical-digits f t negative start n sign begin digits same =
     let body = take (length t - start) (drop start t) in
-    subst (λ n. SpellsNumber f t (signed_number negative n)) (sym same)
-    (spells-body f t (printed_separator f.grouping f.separator) body f.grouping negative start (take_rest t start) sign refl refl begin
+    subst (λ n. IsCanonical f t (signed_number negative n)) (sym same)
+    (canonical-body f t (printed_separator f.grouping f.separator) body f.grouping negative start (take_rest t start) sign refl refl begin
     (inr (plain-all body digits)))
 
 -- and no other bytes there do
-pub body-spelled : (f : FormatData) (t s : List ℕ) (g : Grouping) (negative : Bool) (start : ℕ) (z : ℤ) → HasSign f t negative start
+pub body-canonical : (f : FormatData) (t s : List ℕ) (g : Grouping) (negative : Bool) (start : ℕ) (z : ℤ) → HasSign f t negative start
     → s ≡ printed_separator f.grouping f.separator → g ≡ f.grouping →
-    SpellsNumber f t z → IsBody g s (drop start t)
-body-spelled f t s g negative start z sign separator grouping spells =
-    let told = body-told f t negative start z sign spells in
-    let ds = byte_figures (drop start t) in
+    IsCanonical f t z → IsBody g s (drop start t)
+body-canonical f t s g negative start z sign separator grouping is_canonical =
+    let told = body-told f t negative start z sign is_canonical in
+    let ds = byte_digits (drop start t) in
     elim told.of.either [
       | inl same ↦
-          inl (told.body ∙ same ∙ ap (grouped f.grouping f.separator) (sym told.figures) ∙ grouped-printed f.grouping f.separator ds
+          inl (told.body ∙ same ∙ ap (grouped f.grouping f.separator) (sym told.digit_count) ∙ grouped-printed f.grouping f.separator ds
           ∙ ap (λ x. grouped f.grouping x ds) (sym separator)
           ∙ ap (λ k. grouped k s ds) (sym grouping))
-      | inr same ↦ inr (told.body ∙ same ∙ ap plain (sym told.figures))
+      | inr same ↦ inr (told.body ∙ same ∙ ap plain (sym told.digit_count))
     ]
 
 -- the sign that a text has
@@ -230,25 +230,25 @@ pub signed_number-unsigned_abs : (z : ℤ) → signed_number (is_negative z) (un
 signed_number-unsigned_abs (pos n) = rw (is_negative-pos n)
 signed_number-unsigned_abs (negsuc n) = refl
 
--- so a text spells one number at most
-pub spelled-once : (f : FormatData) (t : List ℕ) (y z : ℤ) → HasPlainSymbols f → SpellsNumber f t y → SpellsNumber f t z → y ≡ z
-spelled-once f t y z symbols first second = sym (number y first) ∙ number z second
+-- so a text is canonical for one number at most
+pub canonical-once : (f : FormatData) (t : List ℕ) (y z : ℤ) → HasPlainSymbols f → IsCanonical f t y → IsCanonical f t z → y ≡ z
+canonical-once f t y z symbols first second = sym (number y first) ∙ number z second
   where
-    number : (x : ℤ) → SpellsNumber f t x → signed_number (is_negative_text f t) (number_in (drop (sign_len f t) t)) ≡ x
-    number x spells =
-        let told = body-told f t (is_negative_text f t) (sign_len f t) x (sign-has f t symbols) spells in
+    number : (x : ℤ) → IsCanonical f t x → signed_number (is_negative_text f t) (number_in (drop (sign_len f t) t)) ≡ x
+    number x is_canonical =
+        let told = body-told f t (is_negative_text f t) (sign_len f t) x (sign-has f t symbols) is_canonical in
         ap (λ b. signed_number b (number_in (drop (sign_len f t) t))) told.sign
-        ∙ ap (λ n. signed_number (is_negative x) n) (ap (number_from_digits 10) told.figures ∙ number_from_digits-digits (unsigned_abs x))
+        ∙ ap (λ n. signed_number (is_negative x) n) (ap (number_from_digits 10) told.digit_count ∙ number_from_digits-digits (unsigned_abs x))
         ∙ signed_number-unsigned_abs x
 
--- a text that does not begin with a digit other than zero spells no number, unless it is one zero
-pub unspelled-zero : (f : FormatData) (t : List ℕ) (negative : Bool) (start : ℕ) (z : ℤ) → HasSign f t negative start
-    → ¬ (BeginsWithDigit (drop start t)) → ¬ (t ≡ 48 ∷ []) → ¬ (SpellsNumber f t z)
-unspelled-zero f t negative start z sign other more spells =
-    let told = body-told f t negative start z sign spells in
+-- a text that does not begin with a digit other than zero is canonical for no number, unless it is one zero
+pub not_canonical-zero : (f : FormatData) (t : List ℕ) (negative : Bool) (start : ℕ) (z : ℤ) → HasSign f t negative start
+    → ¬ (BeginsWithDigit (drop start t)) → ¬ (t ≡ 48 ∷ []) → ¬ (IsCanonical f t z)
+not_canonical-zero f t negative start z sign other more is_canonical =
+    let told = body-told f t negative start z sign is_canonical in
     let either : (unsigned_abs z ≡ 0) ⊎ (0 < unsigned_abs z) = grind arith in
     elim either [
-      | inl none ↦ more (zero_text z none spells)
+      | inl none ↦ more (zero_text z none is_canonical)
       | inr some ↦
           let ds = first-some (unsigned_abs z) some in
           other (record {
@@ -268,10 +268,10 @@ unspelled-zero f t negative start z sign other more spells =
         let before = less (omega (arith, large)) in
         (before.0, before.1 ++ (n % 10 ∷ []), before.2, before.3, digits-more n large ∙ ap (λ ds. ds ++ (n % 10 ∷ [])) before.4))
 
-    zero_text : (z : ℤ) → unsigned_abs z ≡ 0 → SpellsNumber f t z → t ≡ 48 ∷ []
+    zero_text : (z : ℤ) → unsigned_abs z ≡ 0 → IsCanonical f t z → t ≡ 48 ∷ []
     zero_text (pos n) none (with_separators same) = same ∙ ap (λ m. text_of f (pos m)) none ∙ text-zero f
     zero_text (pos n) none (without_separators same) = same ∙ ap (λ m. text_of (ungrouped f) (pos m)) none ∙ text-zero (ungrouped f)
-    zero_text (negsuc n) none spells = absurd (omega (arith, none))
+    zero_text (negsuc n) none is_canonical = absurd (omega (arith, none))
 
 -- what is read of the digits after a sign is read of the text
 pub reading-body : (k : Kind) (f : FormatData) (t s body : List ℕ) (g : Grouping) (negative : Bool) (start : ℕ) → body ≡ drop start t
@@ -279,12 +279,12 @@ pub reading-body : (k : Kind) (f : FormatData) (t s body : List ℕ) (g : Groupi
     BeginsWithDigit body → (r : Reading) → HasBody (λ n. (b : Bool) → ¬ (IsValueOf k (signed_number b n))) g s body r
     → HasReading k f t negative r
 reading-body k f t s body g negative start behind sign separator grouping begin (Number n) read =
-    subst (λ m. SpellsNumber f t (signed_number negative m)) (sym read.1)
-    (spells-body f t s body g negative start behind sign separator grouping begin read.0)
+    subst (λ m. IsCanonical f t (signed_number negative m)) (sym read.1)
+    (canonical-body f t s body g negative start behind sign separator grouping begin read.0)
 reading-body k f t s body g negative start behind sign separator grouping begin TooLarge read =
-    (number_in body, read.1 negative, spells-body f t s body g negative start behind sign separator grouping begin read.0)
-reading-body k f t s body g negative start behind sign separator grouping begin Unspelled other =
-    λ z spells. other (subst (IsBody g s) (sym behind) (body-spelled f t s g negative start z sign separator grouping spells))
+    (number_in body, read.1 negative, canonical-body f t s body g negative start behind sign separator grouping begin read.0)
+reading-body k f t s body g negative start behind sign separator grouping begin NotCanonical other =
+    λ z is_canonical. other (subst (IsBody g s) (sym behind) (body-canonical f t s g negative start z sign separator grouping is_canonical))
 
 -- what holds of digits, of a separator, and of two texts one after the other holds of separated digits
 separated-all : (P : List ℕ → Type 0) → P [] → ((d : ℕ) → d < 10 → P ((48 + d) ∷ [])) → ((xs ys : List ℕ) → P xs → P ys → P (xs ++ ys))
@@ -320,10 +320,10 @@ no_other-append xs ys p q = record {
 no_other-digit : (d : ℕ) → d < 10 → HasNoOtherNumeral ((48 + d) ∷ [])
 no_other-digit d small = record { utf8 = utf8-digit d small; plain = no_other-bytes ((48 + d) ∷ []) (grind (arith, nat_tests)) }
 
--- so is a text that spells a number
-pub no_other-spelled : (f : FormatData) (t : List ℕ) (z : ℤ) → HasPlainSymbols f → SpellsNumber f t z → HasNoOtherNumeral t
-no_other-spelled f t z symbols spells =
-    let told = text-spelled f t z spells in
+-- so is a text that is canonical for a number
+pub no_other-canonical : (f : FormatData) (t : List ℕ) (z : ℤ) → HasPlainSymbols f → IsCanonical f t z → HasNoOtherNumeral t
+no_other-canonical f t z symbols is_canonical =
+    let told = text-canonical f t z is_canonical in
     let of = told.of in
     let front : List ℕ = if is_negative z then f.minus_sign else [] in
     let separator : HasNoOtherNumeral (printed_separator f.grouping f.separator) =
@@ -338,22 +338,22 @@ no_other-spelled f t z symbols spells =
     (digits (unsigned_abs z)) separator (digits-below_ten (unsigned_abs z))))
 
 -- and its digits are those of the number
-pub figures-spelled : (f : FormatData) (t : List ℕ) (z : ℤ) → HasPlainSymbols f → SpellsNumber f t z → figures t ≡ digits (unsigned_abs z)
-figures-spelled f t z symbols spells =
+pub text_digits-canonical : (f : FormatData) (t : List ℕ) (z : ℤ) → HasPlainSymbols f → IsCanonical f t z → text_digits t ≡ digits (unsigned_abs z)
+text_digits-canonical f t z symbols is_canonical =
     let sign = sign-has f t symbols in
-    let told = body-told f t (is_negative_text f t) (sign_len f t) z sign spells in
+    let told = body-told f t (is_negative_text f t) (sign_len f t) z sign is_canonical in
     let front : List ℕ = if is_negative_text f t then f.minus_sign else [] in
-    figures-bytes t (no_other-spelled f t z symbols spells).utf8
-    ∙ ap byte_figures (sign-behind f t (is_negative_text f t) (sign_len f t) sign)
+    text_digits-bytes t (no_other-canonical f t z symbols is_canonical).utf8
+    ∙ ap byte_digits (sign-behind f t (is_negative_text f t) (sign_len f t) sign)
     ∙ digits_among-append front (drop (sign_len f t) t)
-    ∙ ap (λ ds. ds ++ byte_figures (drop (sign_len f t) t)) (of_either (λ x. byte_figures x ≡ []) refl
+    ∙ ap (λ ds. ds ++ byte_digits (drop (sign_len f t) t)) (of_either (λ x. byte_digits x ≡ []) refl
     (is_negative_text f t) f.minus_sign symbols.sign)
-    ∙ told.figures
+    ∙ told.digit_count
 
 -- and no unexpected byte
-pub unexpected-none : (f : FormatData) (t : List ℕ) (z : ℤ) → HasPlainSymbols f → SpellsNumber f t z → unexpected f t ≡ []
-unexpected-none f t z symbols spells =
-    let told = body-told f t (is_negative_text f t) (sign_len f t) z (sign-has f t symbols) spells in
+pub unexpected-none : (f : FormatData) (t : List ℕ) (z : ℤ) → HasPlainSymbols f → IsCanonical f t z → unexpected f t ≡ []
+unexpected-none f t z symbols is_canonical =
+    let told = body-told f t (is_negative_text f t) (sign_len f t) z (sign-has f t symbols) is_canonical in
     let s = printed_separator f.grouping f.separator in
     ap (unread s 0) (told.body ∙ told.of.separated_same) ∙ unread-separated told.of.is_due s (digits (unsigned_abs z)) symbols.separator
     (digits-below_ten (unsigned_abs z))

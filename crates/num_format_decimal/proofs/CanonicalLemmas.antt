@@ -1,4 +1,4 @@
--- The parts of a text that spells a decimal, and the digits in it.
+-- The parts of a text that is canonical for a decimal, and the digits in it.
 use Rattle.std.proofs.Common.{◌≡◌, ℕ, zero, suc, ◌+◌, ◌*◌, ◌/◌, ◌%◌, ◌^◌, ◌<◌, ◌⊎◌, inl, inr, Bool, true, List, [], ◌∷◌, ◌++◌, length, drop}
 use Rattle.std.proofs.Common.{take, refl, ap, ◌∙◌, sym, subst, arith, append_assoc, length-append, lit<, unsigned_abs}
 use Rattle.std.specs.Prelude.{if◌then◌else◌}
@@ -20,14 +20,14 @@ use Rattle.num_format_int.specs.Grouped.{grouped}
 use Rattle.num_format_int.specs.Groups.{last_digits, plain}
 use Rattle.num_format_int.specs.Kind.{signed_number}
 use Rattle.num_format_int.proofs.DigitLemmas.{AreDigits, digits-leading_one, digits-small, last_digits-mod, number_from_digits-digits}
-use Rattle.num_format_parsing.specs.Shapes.{byte_figures}
+use Rattle.num_format_parsing.specs.Shapes.{byte_digits}
 use Rattle.num_format_parsing.specs.Strict.{ungrouped}
-use Rattle.num_format_parsing.proofs.FigureLemmas.{digits-after, figures-below}
+use Rattle.num_format_parsing.proofs.DigitLemmas.{digits-after, text_digits-below}
 use Rattle.num_format_parsing.proofs.GroupsLemmas.{plain-all}
 use Rattle.num_format_parsing.proofs.ReadingLemmas.{is_ascii_digit-digit}
-use Rattle.num_format_parsing.proofs.SpellingLemmas.{signed-abs, signed-sign}
+use Rattle.num_format_parsing.proofs.CanonicalLemmas.{signed-abs, signed-sign}
 use Rattle.num_format_decimal.specs.FixedPoint.{FixedPoint, fixed_point}
-use Rattle.num_format_decimal.specs.Parsing.{SpellsDecimal, with_separators, without_separators}
+use Rattle.num_format_decimal.specs.Parsing.{IsCanonicalDecimal, with_separators, without_separators}
 use Rattle.num_format_decimal.specs.Shapes.{IsAmount, IsSigned}
 use Rattle.num_format_decimal.specs.Text.{decimal_text, decimals_of, mark_at, unsigned_text}
 use Rattle.num_format_decimal.proofs.TextLemmas.{length-plain}
@@ -39,9 +39,9 @@ signed-text f b n k some =
     ap (λ (c : Bool). (if c then f.minus_sign else []) ++ unsigned_text f (unsigned_abs (signed_number b n)) k) (signed-sign b n some)
     ∙ ap (λ j. (if b then f.minus_sign else []) ++ unsigned_text f j k) (signed-abs b n)
 
-pub signed-spelled : (f : FormatData) (t : List ℕ) (d : FixedPoint) → SpellsDecimal f t d
+pub signed-canonical : (f : FormatData) (t : List ℕ) (d : FixedPoint) → IsCanonicalDecimal f t d
     → IsSigned f t (is_negative d.units) (unsigned_abs d.units) d.scale
-signed-spelled f t d spells = elim spells [
+signed-canonical f t d is_canonical = elim is_canonical [
   | with_separators same ↦ from f.grouping (inl refl) same
   | without_separators same
       ↦ from (ungrouped f).grouping (inr refl) same
@@ -58,9 +58,9 @@ signed-spelled f t d spells = elim spells [
           (grouped g f.separator (digits (unsigned_abs d.units / 10 ^ d.scale))) (decimals_of f (unsigned_abs d.units) d.scale));
     }
 
-pub spelled-signed : (f : FormatData) (t : List ℕ) (b : Bool) (n k : ℕ) → (b ≡ true → 0 < n) → IsSigned f t b n k
-    → SpellsDecimal f t (fixed_point (signed_number b n) k)
-spelled-signed f t b n k some signed =
+pub canonical-signed : (f : FormatData) (t : List ℕ) (b : Bool) (n k : ℕ) → (b ≡ true → 0 < n) → IsSigned f t b n k
+    → IsCanonicalDecimal f t (fixed_point (signed_number b n) k)
+canonical-signed f t b n k some signed =
     let sign : List ℕ = if b then f.minus_sign else [] in
     let ds = digits (n / 10 ^ k) in
     let rest = decimals_of f n k in
@@ -155,14 +155,14 @@ pub record EndsIn (xs : List ℕ) (m n : ℕ) : Type 0 where
   pub whole : n / 10 ^ length xs ≡ m
 
 pub ends-read : (xs : List ℕ) (m n : ℕ) → list_all is_ascii_digit xs ≡ true
-    → n ≡ m * 10 ^ length xs + number_from_digits 10 (byte_figures xs) → EndsIn xs m n
+    → n ≡ m * 10 ^ length xs + number_from_digits 10 (byte_digits xs) → EndsIn xs m n
 ends-read xs m n all sum =
     let k = length xs in
-    let ls = byte_figures xs in
+    let ls = byte_digits xs in
     let b = number_from_digits 10 ls in
     let same : xs ≡ plain ls = plain-all xs all in
     let long : length ls ≡ k = sym (ap length same ∙ length-map ls (λ d. 48 + d)) in
-    let below = figures-below xs in
+    let below = text_digits-below xs in
     let small : b < 10 ^ k = subst (λ j. b < 10 ^ j) long (number_lt 10 ls (recursion_from_All (λ d. d < 10) ls below)) in
     record {
       digits = same ∙ ap plain (

@@ -14,32 +14,32 @@ use Rattle.std.proofs.lemmas.List.Sums.{length-filter}
 use Rattle.std.proofs.lemmas.List.Elements.{All-nil, All-cons, All-head, All-tail, filter-append}
 use Rattle.std.proofs.lemmas.Str.{chars-encodes, encode_ascii, inside_one}
 use Rattle.num_format_int.specs.Digits.{digits}
-use Rattle.num_format_parsing.specs.Reading.{figures}
+use Rattle.num_format_parsing.specs.Reading.{text_digits}
 use Rattle.num_format_int.proofs.DigitLemmas.{digits-more, digits-small}
 use Rattle.num_format_parsing.proofs.ReadingLemmas.{digits_among-first, is_ascii_digit-digit}
-use Rattle.num_format_parsing.specs.Shapes.{byte_figures, BeginsWithDigit}
+use Rattle.num_format_parsing.specs.Shapes.{byte_digits, BeginsWithDigit}
 
 -- a digit as a character, and back
 pub digit_char : (b : ℕ) → is_ascii_digit b ≡ true → 48 + (b - 48) ≡ b
 digit_char b digit = grind (arith, nat_tests)
 
-pub figures-digit : (b : ℕ) (t : List ℕ) → is_ascii_digit b ≡ true → byte_figures (b ∷ t) ≡ (b - 48) ∷ byte_figures t
-figures-digit b t digit = rw digit
+pub text_digits-digit : (b : ℕ) (t : List ℕ) → is_ascii_digit b ≡ true → byte_digits (b ∷ t) ≡ (b - 48) ∷ byte_digits t
+text_digits-digit b t digit = rw digit
 
-pub figures-other : (b : ℕ) (t : List ℕ) → is_ascii_digit b ≡ false → byte_figures (b ∷ t) ≡ byte_figures t
-figures-other b t other = rw other
+pub text_digits-other : (b : ℕ) (t : List ℕ) → is_ascii_digit b ≡ false → byte_digits (b ∷ t) ≡ byte_digits t
+text_digits-other b t other = rw other
 
 -- bytes of which none is a digit, and of which one is
-pub figures-none : (t : List ℕ) → list_any is_ascii_digit t ≡ false → byte_figures t ≡ []
-figures-none [] none = refl
-figures-none (b ∷ t) none = let parts = or_parts _ _ none in figures-other b t parts.0 ∙ figures-none t parts.1
+pub text_digits-none : (t : List ℕ) → list_any is_ascii_digit t ≡ false → byte_digits t ≡ []
+text_digits-none [] none = refl
+text_digits-none (b ∷ t) none = let parts = or_parts _ _ none in text_digits-other b t parts.0 ∙ text_digits-none t parts.1
 
-pub figures-some : (t : List ℕ) → list_any is_ascii_digit t ≡ true → ¬ (byte_figures t ≡ [])
-figures-some [] some none = let wrong : false ≡ true = some in cc
-figures-some (b ∷ t) some none =
+pub text_digits-some : (t : List ℕ) → list_any is_ascii_digit t ≡ true → ¬ (byte_digits t ≡ [])
+text_digits-some [] some none = let wrong : false ≡ true = some in cc
+text_digits-some (b ∷ t) some none =
     elim (cases_Bool (is_ascii_digit b)) [
-      | inl digit ↦ (let wrong = sym (figures-digit b t digit) ∙ none in cc)
-      | inr other ↦ figures-some t (rw other at some) (sym (figures-other b t other) ∙ none)
+      | inl digit ↦ (let wrong = sym (text_digits-digit b t digit) ∙ none in cc)
+      | inr other ↦ text_digits-some t (rw other at some) (sym (text_digits-other b t other) ∙ none)
     ]
 
 -- bytes of which none is ASCII have no digit
@@ -77,14 +77,14 @@ filter-encodes (c ∷ cs) =
     ∙ sym (filter-append is_ascii_digit (c ∷ []) cs)
 
 -- in UTF-8 the digits among the bytes are those among the characters
-pub figures-bytes : (t : List ℕ) → IsUtf8 t → figures t ≡ byte_figures t
-figures-bytes t (cs, (scalars, same)) =
+pub text_digits-bytes : (t : List ℕ) → IsUtf8 t → text_digits t ≡ byte_digits t
+text_digits-bytes t (cs, (scalars, same)) =
     ap (map (λ c. c - 48)) (ap (filter is_ascii_digit) (ap chars (sym same) ∙ chars-encodes cs scalars) ∙ sym (filter-encodes cs)
     ∙ ap (filter is_ascii_digit) same)
 
 -- and they are as many
-pub figures-counted : (t : List ℕ) → IsUtf8 t → length (figures t) ≡ count_by is_ascii_digit t
-figures-counted t utf8 = ap length (figures-bytes t utf8) ∙ length-map (filter is_ascii_digit t) (λ b. b - 48)
+pub text_digits-counted : (t : List ℕ) → IsUtf8 t → length (text_digits t) ≡ count_by is_ascii_digit t
+text_digits-counted t utf8 = ap length (text_digits-bytes t utf8) ∙ length-map (filter is_ascii_digit t) (λ b. b - 48)
     ∙ length-filter is_ascii_digit t
 
 -- numbers below ten after a number that is not zero are its further digits
@@ -98,14 +98,14 @@ digits-after m (d ∷ ds) some below =
     ∙ ap (λ xs. xs ++ ds) (digits-more (m * 10 + d) (omega arith) ∙ rw (high, low))
     ∙ append_assoc (digits m) (d ∷ []) ds
 
--- the figures of bytes are below ten
-pub figures-below : (t : List ℕ) → All (λ d. d < 10) (byte_figures t)
-figures-below [] = All-nil (λ d. d < 10)
-figures-below (b ∷ t) =
+-- the digits of bytes are below ten
+pub text_digits-below : (t : List ℕ) → All (λ d. d < 10) (byte_digits t)
+text_digits-below [] = All-nil (λ d. d < 10)
+text_digits-below (b ∷ t) =
     elim (cases_Bool (is_ascii_digit b)) [
       | inl digit ↦ let small : b - 48 < 10 = grind (arith, nat_tests) in
-          rw (figures-digit b t digit) (All-cons (λ d. d < 10) (b - 48) (byte_figures t) small (figures-below t))
-      | inr other ↦ rw (figures-other b t other) (figures-below t)
+          rw (text_digits-digit b t digit) (All-cons (λ d. d < 10) (b - 48) (byte_digits t) small (text_digits-below t))
+      | inr other ↦ rw (text_digits-other b t other) (text_digits-below t)
     ]
 
 -- bytes that begin with a digit other than zero write a number with these digits
@@ -113,16 +113,16 @@ pub record Writes (ds : List ℕ) : Type 0 where
   pub some : 0 < number_from_digits 10 ds
   pub same : digits (number_from_digits 10 ds) ≡ ds
 
-pub writes : (t : List ℕ) → BeginsWithDigit t → Writes (byte_figures t)
+pub writes : (t : List ℕ) → BeginsWithDigit t → Writes (byte_digits t)
 writes t begin =
     let d = begin.digit in
-    let rest = byte_figures begin.rest in
-    let split : byte_figures t ≡ d ∷ rest = ap byte_figures begin.same ∙ digits_among-first d begin.rest begin.small in
+    let rest = byte_digits begin.rest in
+    let split : byte_digits t ≡ d ∷ rest = ap byte_digits begin.same ∙ digits_among-first d begin.rest begin.small in
     let first : number_from_digits 10 (d ∷ rest) ≡ number_from_digits_after 10 d rest =
     ap (λ n. number_from_digits_after 10 n rest) (let e : 0 * 10 + d ≡ d = omega arith in e) in
     rw split (record {
       some = omega (arith, first, number_after_ge 10 d rest (lit< tt), begin.some);
-      same = ap digits first ∙ digits-after d rest begin.some (figures-below begin.rest)
+      same = ap digits first ∙ digits-after d rest begin.some (text_digits-below begin.rest)
           ∙ ap (λ xs. xs ++ rest) (digits-small d begin.small);
     })
 
