@@ -149,12 +149,12 @@ both_needed_law =
     let f = english_with Standard (codes ",") (codes "-0") in
     let g = english_with Standard (codes ",") [] in record {
       lowest = (
-        reads_back-from_tells I128 f (pos 1) one_of_i128 (record { digit_count = refl; plain = refl; sign = refl }),
+        reads_back-from_tells I128 f (pos 1) one_of_i128 (record { same_digits = refl; plain = refl; sign = refl }),
         λ reads_back. reads_back.accepted (too_many_digits (omega arith)),
       );
       one = (
         λ reads_back. (let wrong : negsuc 0 ≡ pos 1 = reads_back.same in cc),
-        reads_back-from_tells I128 g (negsuc (2 ^ 127 - 1)) lowest_of_i128 (record { digit_count = refl; plain = refl; sign = refl }),
+        reads_back-from_tells I128 g (negsuc (2 ^ 127 - 1)) lowest_of_i128 (record { same_digits = refl; plain = refl; sign = refl }),
       );
     }
 

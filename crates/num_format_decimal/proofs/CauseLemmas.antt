@@ -26,7 +26,8 @@ stops-not f t a stops expected = omega (arith, ap length (sym stops.rest ∙ exp
 stops-once : (f : FormatData) (t : List ℕ) (a b : ℕ) → DecimalStopsAt f t a → DecimalStopsAt f t b → a ≡ b
 stops-once f t a b p q = omega (arith, ap length (sym p.rest ∙ q.rest), length-drop a t, length-drop b t, p.inside, q.inside)
 
-pub expected_of : (f : FormatData) (t : List ℕ) (at : ℕ) → IsUtf8 t → ((d : FixedPoint) → d.scale ≤ MAX_SCALE → ¬ (IsCanonicalDecimal f t d))
+pub expected_of : (f : FormatData) (t : List ℕ) (at : ℕ) → IsUtf8 t → ((d : FixedPoint) → d.scale ≤ MAX_SCALE
+    → ¬ (IsCanonicalDecimal f t d))
     → unexpected_in_decimal f t ≡ drop at t → length t ≤ at → IsExpectedDecimal f t
 expected_of f t at utf8 none rest all = record { is_not_canonical = record { utf8 = utf8; none = none }; rest = rest ∙ drop_all at t all }
 

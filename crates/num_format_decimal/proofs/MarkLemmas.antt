@@ -161,7 +161,8 @@ module _ (f : FormatData) (p : IsPlainFormat f) where
 
 pub tells-canonical_decimal : (f : FormatData) (t : List ℕ) (z : ℤ) (k : ℕ) → IsPlainFormat f → IsCanonicalDecimal f t (fixed_point z k)
     → Tells f t (is_negative z) (unsigned_abs z)
-tells-canonical_decimal f t z k p is_canonical = tells-signed f p t (is_negative z) (unsigned_abs z) k (signed-canonical f t (fixed_point z k) is_canonical)
+tells-canonical_decimal f t z k p is_canonical =
+    tells-signed f p t (is_negative z) (unsigned_abs z) k (signed-canonical f t (fixed_point z k) is_canonical)
 
 -- it denotes the units
 pub denoted-decimal : (f : FormatData) (t : List ℕ) (z : ℤ) (k : ℕ) → Tells f t (is_negative z) (unsigned_abs z) → denoted f t ≡ z
@@ -309,7 +310,8 @@ one_scale f t z j k p apart first second = pick j k (signed-canonical f t (fixed
     pick (suc j) (suc k) a b = sym (tail-signed f t _ _ (suc j) p (omega arith) a) ∙ tail-signed f t _ _ (suc k) p (omega arith) b
 
 -- and is canonical for one decimal at most
-pub canonical_once : (f : FormatData) (t : List ℕ) (a b : FixedPoint) → IsPlainFormat f → (f.grouping ≡ Posix) ⊎ (¬ (f.decimal ≡ f.separator))
+pub canonical_once : (f : FormatData) (t : List ℕ) (a b : FixedPoint) → IsPlainFormat f
+    → (f.grouping ≡ Posix) ⊎ (¬ (f.decimal ≡ f.separator))
     → IsCanonicalDecimal f t a → IsCanonicalDecimal f t b → a ≡ b
 canonical_once f t a b p apart first second =
     let units : a.units ≡ b.units = sym (denoted-decimal f t a.units a.scale (tells-canonical_decimal f t a.units a.scale p first))

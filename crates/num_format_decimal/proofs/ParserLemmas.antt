@@ -127,7 +127,8 @@ mark_split mark t place end begin after =
     ∙ ap (λ xs. mark ++ xs) (drop-drop (length mark) place t ∙ ap (λ i. drop i t) after))
 
 -- the mark stands before the decimals that a text has
-module _ (f : FormatData) (t : List ℕ) (d : FixedPoint) (p : IsPlainFormat f) (some : 0 < d.scale) (is_canonical : IsCanonicalDecimal f t d) where
+module _ (f : FormatData) (t : List ℕ) (d : FixedPoint) (p : IsPlainFormat f) (some : 0 < d.scale)
+    (is_canonical : IsCanonicalDecimal f t d) where
   pub scale_counted : d.scale ≡ tail_digits t
   scale_counted = sym (tail-signed f t (is_negative d.units) (unsigned_abs d.units) d.scale p some (signed-canonical f t d is_canonical))
 

@@ -50,7 +50,8 @@ module _ (f : FormatData) (t : List ℕ) (marks : MarksDecimals f) (none : (d : 
   by_place : IsUtf8 t → (at : ℕ) → unexpected_in_decimal f t ≡ drop at t → (e : ParseDecimalError) × IsDecimalCause f t e
   by_place utf8 at rest =
       elim (cases_lt at (length t)) [
-        | inl inside ↦ (Unexpected at, (marks, record { is_not_canonical = record { utf8 = utf8; none = none }; inside = inside; rest = rest }))
+        | inl inside ↦ (Unexpected at, (marks, record { is_not_canonical = record { utf8 = utf8; none = none }; inside = inside; rest =
+            rest }))
         | inr outside ↦ by_digits (expected_of f t at utf8 none rest (omega (arith, outside))) (text_digits t) refl
       ]
 

@@ -141,7 +141,7 @@ pub record TellsBody (f : FormatData) (t : List ℕ) (negative : Bool) (start : 
   pub sign : negative ≡ is_negative z
   pub of : HasDigitsOf f z
   pub body : drop start t ≡ of.body
-  pub digit_count : byte_digits (drop start t) ≡ digits (unsigned_abs z)
+  pub same_digits : byte_digits (drop start t) ≡ digits (unsigned_abs z)
 
 pub body-told : (f : FormatData) (t : List ℕ) (negative : Bool) (start : ℕ) (z : ℤ) → HasSign f t negative start → IsCanonical f t z
     → TellsBody f t negative start z
@@ -199,10 +199,10 @@ body-canonical f t s g negative start z sign separator grouping is_canonical =
     let ds = byte_digits (drop start t) in
     elim told.of.either [
       | inl same ↦
-          inl (told.body ∙ same ∙ ap (grouped f.grouping f.separator) (sym told.digit_count) ∙ grouped-printed f.grouping f.separator ds
+          inl (told.body ∙ same ∙ ap (grouped f.grouping f.separator) (sym told.same_digits) ∙ grouped-printed f.grouping f.separator ds
           ∙ ap (λ x. grouped f.grouping x ds) (sym separator)
           ∙ ap (λ k. grouped k s ds) (sym grouping))
-      | inr same ↦ inr (told.body ∙ same ∙ ap plain (sym told.digit_count))
+      | inr same ↦ inr (told.body ∙ same ∙ ap plain (sym told.same_digits))
     ]
 
 -- the sign that a text has
@@ -238,7 +238,8 @@ canonical-once f t y z symbols first second = sym (number y first) ∙ number z 
     number x is_canonical =
         let told = body-told f t (is_negative_text f t) (sign_len f t) x (sign-has f t symbols) is_canonical in
         ap (λ b. signed_number b (number_in (drop (sign_len f t) t))) told.sign
-        ∙ ap (λ n. signed_number (is_negative x) n) (ap (number_from_digits 10) told.digit_count ∙ number_from_digits-digits (unsigned_abs x))
+        ∙ ap (λ n. signed_number (is_negative x) n) (ap (number_from_digits 10) told.same_digits
+            ∙ number_from_digits-digits (unsigned_abs x))
         ∙ signed_number-unsigned_abs x
 
 -- a text that does not begin with a digit other than zero is canonical for no number, unless it is one zero
@@ -338,7 +339,8 @@ no_other-canonical f t z symbols is_canonical =
     (digits (unsigned_abs z)) separator (digits-below_ten (unsigned_abs z))))
 
 -- and its digits are those of the number
-pub text_digits-canonical : (f : FormatData) (t : List ℕ) (z : ℤ) → HasPlainSymbols f → IsCanonical f t z → text_digits t ≡ digits (unsigned_abs z)
+pub text_digits-canonical : (f : FormatData) (t : List ℕ) (z : ℤ) → HasPlainSymbols f → IsCanonical f t z
+    → text_digits t ≡ digits (unsigned_abs z)
 text_digits-canonical f t z symbols is_canonical =
     let sign = sign-has f t symbols in
     let told = body-told f t (is_negative_text f t) (sign_len f t) z sign is_canonical in
@@ -348,7 +350,7 @@ text_digits-canonical f t z symbols is_canonical =
     ∙ digits_among-append front (drop (sign_len f t) t)
     ∙ ap (λ ds. ds ++ byte_digits (drop (sign_len f t) t)) (of_either (λ x. byte_digits x ≡ []) refl
     (is_negative_text f t) f.minus_sign symbols.sign)
-    ∙ told.digit_count
+    ∙ told.same_digits
 
 -- and no unexpected byte
 pub unexpected-none : (f : FormatData) (t : List ℕ) (z : ℤ) → HasPlainSymbols f → IsCanonical f t z → unexpected f t ≡ []

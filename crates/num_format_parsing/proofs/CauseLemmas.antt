@@ -17,7 +17,8 @@ use Rattle.num_format_parsing.specs.declared.reading.Reading.TheVariants.{Number
 use Rattle.num_format_parsing.specs.declared.error.StrictError.{StrictError}
 use Rattle.num_format_parsing.specs.declared.error.StrictError.TheVariants.{AmbiguousFormat, NotUtf8, Unexpected, NoDigit, Misspelled}
 use Rattle.num_format_parsing.specs.declared.error.StrictError.TheVariants.{OutOfRange}
-use Rattle.num_format_parsing.proofs.CanonicalLemmas.{text_digits-canonical, is_negative-pos, no_other-canonical, canonical-once, unexpected-none}
+use Rattle.num_format_parsing.proofs.CanonicalLemmas.{text_digits-canonical, is_negative-pos, no_other-canonical, canonical-once}
+use Rattle.num_format_parsing.proofs.CanonicalLemmas.{unexpected-none}
 
 stops-not : (f : FormatData) (t : List ℕ) (a : ℕ) → StopsAt f t a → IsExpected f t → ⊥
 stops-not f t a stops expected = omega (arith, ap length (sym stops.rest ∙ expected.rest), length-drop a t, stops.inside)
@@ -31,7 +32,8 @@ canonical_cause : (k : Kind) (f : FormatData) (t : List ℕ) (z : ℤ) (e : Stri
 canonical_cause k f t z AmbiguousFormat s is_canonical p = absurd (p s.unambiguous)
 canonical_cause k f t z NotUtf8 s is_canonical p = absurd (p.1 ((no_other-canonical f t z s is_canonical).utf8))
 canonical_cause k f t z (Unexpected a) s is_canonical p =
-    absurd (stops-not f t a p.1 (record { utf8 = (no_other-canonical f t z s is_canonical).utf8; rest = unexpected-none f t z s is_canonical }))
+    absurd (stops-not f t a p.1 (record { utf8 = (no_other-canonical f t z s is_canonical).utf8; rest =
+        unexpected-none f t z s is_canonical }))
 canonical_cause k f t z NoDigit s is_canonical p =
     absurd (omega (arith, digits_given (unsigned_abs z), ap length (sym (text_digits-canonical f t z s is_canonical) ∙ p.1.none)))
 canonical_cause k f t z Misspelled s is_canonical p = absurd (p.1.wrong z is_canonical)
@@ -62,7 +64,8 @@ only_cause k f t Misspelled Misspelled s p q = refl
 pub parses-judged : {X : Type 0} (k : Kind) (value : X → ℤ) (f : FormatData) (t : List ℕ) (r : Result X StrictError) → HasPlainSymbols f
     → IsJudged k value f t r → ParsesStrictly k value f t r
 parses-judged k value f t (Ok n) s judged = record {
-  number = λ z. (λ is_canonical. canonical-once f t z (value n) s is_canonical judged.0, λ same. subst (IsCanonical f t) (sym same) judged.0);
+  number = λ z. (λ is_canonical. canonical-once f t z (value n) s is_canonical judged.0, λ same. subst (IsCanonical f t)
+      (sym same) judged.0);
   accepted = (λ ok. (s.unambiguous, (value n, judged.0, judged.1)), λ given. refl);
   refused = λ e. (λ wrong. cc, λ cause. absurd ((canonical_cause k f t (value n) e s judged.0 cause).1 judged.1));
 }

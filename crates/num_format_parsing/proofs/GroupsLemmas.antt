@@ -36,8 +36,8 @@ plain-all (b ∷ t) all =
     ∙ ap (λ c. c ∷ plain (byte_digits t)) (sym (digit_char b both.0))
     ∙ ap plain (sym (text_digits-digit b t both.0))
 
-pub length-digit_count : (t : List ℕ) → list_all is_ascii_digit t ≡ true → length (byte_digits t) ≡ length t
-length-digit_count t all = sym (ap length (plain-all t all) ∙ length-map (byte_digits t) (λ d. 48 + d))
+pub digits-counted : (t : List ℕ) → list_all is_ascii_digit t ≡ true → length (byte_digits t) ≡ length t
+digits-counted t all = sym (ap length (plain-all t all) ∙ length-map (byte_digits t) (λ d. 48 + d))
 
 -- digits as text are digits
 all-plain : (ds : List ℕ) → AreDigits ds → list_all is_ascii_digit (plain ds) ≡ true
@@ -133,19 +133,19 @@ groups-due : (is_due : ℕ → Bool) (last size : ℕ) (s : List ℕ) (count : �
     → 0 < size → byte_digits s ≡ [] →
     AreGroups last size s count t → BeginsWithSeparator is_due s (byte_digits t) t
 groups-due is_due last size s zero t last_group groups some none g =
-    let digit_count : byte_digits t ≡ g.group = text_digits-group s last t [] none g ∙ append-nil g.group in
+    let same_digits : byte_digits t ≡ g.group = text_digits-group s last t [] none g ∙ append-nil g.group in
     record {
-      due = ap is_due (ap length digit_count ∙ g.long) ∙ last_group.before;
+      due = ap is_due (ap length same_digits ∙ g.long) ∙ last_group.before;
       same =
           g.same
           ∙ ap (λ xs. s ++ xs) (append-nil (plain g.group) ∙ sym (separated-plain is_due s g.group
-          (λ k below. last_group.within k (omega (arith, below, g.long)))) ∙ ap (separated is_due s) (sym digit_count));
+          (λ k below. last_group.within k (omega (arith, below, g.long)))) ∙ ap (separated is_due s) (sym same_digits));
     }
 groups-due is_due last size s (suc count) t last_group groups some none (rest, g, more) =
-    let digit_count : byte_digits t ≡ g.group ++ byte_digits rest = text_digits-group s size t rest none g in
+    let same_digits : byte_digits t ≡ g.group ++ byte_digits rest = text_digits-group s size t rest none g in
     let here = put-group is_due s g.group (byte_digits rest) rest size groups some g.long
     (groups-due is_due last size s count rest last_group groups some none more) in
-    subst (λ ds. BeginsWithSeparator is_due s ds t) (sym digit_count) (subst
+    subst (λ ds. BeginsWithSeparator is_due s ds t) (sym same_digits) (subst
     (λ x. BeginsWithSeparator is_due s (g.group ++ byte_digits rest) x) (sym g.same) here)
 
 pub separated-groups : (is_due : ℕ → Bool) (last size : ℕ) (s t : List ℕ) → HasLastGroup is_due last → HasGroups is_due size → 0 < size
@@ -324,7 +324,7 @@ pub digits-appended : (bound : ℕ) (front s group : List ℕ) (count n more : �
 digits-appended bound front s group count n more none below before same =
     let power = 10 ^ length group in
     let value = number_from_digits 10 group in
-    let digit_count : byte_digits (front ++ (s ++ plain group)) ≡ byte_digits front ++ group =
+    let same_digits : byte_digits (front ++ (s ++ plain group)) ≡ byte_digits front ++ group =
     digits_among-append front (s ++ plain group)
     ∙ ap (λ xs. byte_digits front ++ xs) (text_digits-group s (length group) (s ++ plain group) [] none (record {
       group = group;
@@ -333,14 +333,14 @@ digits-appended bound front s group count n more none below before same =
       same = ap (λ xs. s ++ xs) (sym (append-nil (plain group)));
     }) ∙ append-nil group) in
     record {
-      digit_count = omega (arith, ap length digit_count, length-append (byte_digits front) group, before.digit_count);
+      digit_count = omega (arith, ap length same_digits, length-append (byte_digits front) group, before.digit_count);
       number =
           same
           ∙ ap (λ m. (m * power + value) % bound) before.number
           ∙ sym (mod-add-mod (number_in front % bound * power) bound value)
           ∙ ap (λ m. (m + value) % bound) (mul-mod_first (number_in front) power bound)
           ∙ mod-add-mod (number_in front * power) bound value
-          ∙ ap (λ m. m % bound) (sym (ap (number_from_digits 10) digit_count ∙ number_after_append 10 0 (byte_digits front) group
+          ∙ ap (λ m. m % bound) (sym (ap (number_from_digits 10) same_digits ∙ number_after_append 10 0 (byte_digits front) group
           ∙ number-after (number_in front) group));
     }
 
@@ -377,7 +377,7 @@ appends-group bound s behind count t n power group more same begin room digits v
       found = record {
         group = byte_digits (take count behind);
         below = text_digits-below (take count behind);
-        long = length-digit_count (take count behind) digits ∙ long;
+        long = digits-counted (take count behind) digits ∙ long;
         same =
             begins-split s t begin
             ∙ ap (λ xs. s ++ xs) (sym same ∙ sym (take-append-drop count behind)
@@ -435,7 +435,7 @@ pub left-first : (last size : ℕ) (s t : List ℕ) (count : ℕ) → 0 < length
     → IsLeft last size s t (drop count t)
 left-first last size s t count some none begins few =
     let front = take count t in
-    let long : length (byte_digits front) ≡ count = length-digit_count front begins.digits
+    let long : length (byte_digits front) ≡ count = digits-counted front begins.digits
     ∙ length-take-le count t (omega (arith, begins.inside)) in (
       λ whole.
           let first : length (plain whole.first) ≡ count = length-map whole.first (λ d. 48 + d)

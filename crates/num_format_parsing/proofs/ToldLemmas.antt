@@ -23,14 +23,14 @@ use Rattle.num_format_parsing.proofs.CanonicalLemmas.{signed_number-unsigned_abs
 
 -- a text that tells z: its digits are the digits of z, no other numeral is among them, and it is negative exactly if z is
 pub record Tells (f : FormatData) (z : ℤ) (text : List ℕ) : Type 0 where
-  pub digit_count : text_digits text ≡ digits (unsigned_abs z)
+  pub same_digits : text_digits text ≡ digits (unsigned_abs z)
   pub plain : list_any is_other_numeral (chars text) ≡ false
   pub sign : is_negative_text f text ≡ is_negative z
 
 -- as one does that is canonical for z
 pub tells-canonical : (f : FormatData) (z : ℤ) (text : List ℕ) → HasPlainSymbols f → IsCanonical f text z → Tells f z text
 tells-canonical f z text symbols is_canonical = record {
-  digit_count = text_digits-canonical f text z symbols is_canonical;
+  same_digits = text_digits-canonical f text z symbols is_canonical;
   plain = (no_other-canonical f text z symbols is_canonical).plain;
   sign = sign-told f text z symbols (text-canonical f text z is_canonical);
 }
@@ -39,7 +39,7 @@ tells-canonical f z text symbols is_canonical = record {
 pub tells-same : (f : FormatData) (z : ℤ) (text : List ℕ) → Tells f z text → denoted f text ≡ z
 tells-same f z text tells =
     ap (λ b. signed_number b (magnitude_of text)) tells.sign
-    ∙ ap (signed_number (is_negative z)) (ap (number_from_digits 10) tells.digit_count ∙ number_from_digits-digits (unsigned_abs z))
+    ∙ ap (signed_number (is_negative z)) (ap (number_from_digits 10) tells.same_digits ∙ number_from_digits-digits (unsigned_abs z))
     ∙ signed_number-unsigned_abs z
 
 -- a smaller number has no more digits
@@ -77,7 +77,7 @@ few_digits k (negsuc n) allows value =
 pub tells-accepted : (k : Kind) (f : FormatData) (z : ℤ) (text : List ℕ) → AllowsLongest k → IsValueOf k z → Tells f z text
     → ¬ (Refused k f text)
 tells-accepted k f z text allows value tells refused =
-    let long = ap length tells.digit_count in
+    let long = ap length tells.same_digits in
     elim refused [
       | no_digit none ↦ omega (arith, digits_given (unsigned_abs z), long, ap length none)
       | other_numeral some ↦ both_ways _ tells.plain some

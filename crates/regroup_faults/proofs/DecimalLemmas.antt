@@ -6,7 +6,8 @@ use Rattle.std.proofs.lemmas.Bool.Decides.{Decides-and, Decides-like, Decides-lt
 use Rattle.std.specs.Prelude.{FitsSigned, MatchOption, negsuc, pos, suc, zero, ℤ, ◌&&◌, ◌||◌}
 use Rattle.num_format_decimal.specs.FixedPoint.{FixedPoint, fixed_point}
 use Rattle.num_format.specs.Format.{FormatData, HasUtf8Texts}
-use Rattle.num_format_decimal.specs.Parsing.{IsDecimalCause, ParsesDecimal, IsCanonicalDecimal, IsNotCanonical, after_mark, unexpected_in_decimal}
+use Rattle.num_format_decimal.specs.Parsing.{IsDecimalCause, ParsesDecimal, IsCanonicalDecimal, IsNotCanonical, after_mark}
+use Rattle.num_format_decimal.specs.Parsing.{unexpected_in_decimal}
 use Rattle.num_format_decimal.specs.Parsing.{with_separators, without_separators}
 use Rattle.num_format_decimal.specs.Marks.{IsPlainFormat, MarksDecimals}
 use Rattle.num_format_decimal.specs.declared.parsing.ParseDecimalError.{ParseDecimalError}
@@ -79,14 +80,17 @@ module _ (f : FormatData) (utf8 : HasUtf8Texts f) where
 
     -- the text is canonical for a decimal of a scale below a bound, or none
     abbrev Found : ℕ → Option FixedPoint → Type 0
-    Found n o = MatchOption o ((d : FixedPoint) → d.scale < n → ¬ (IsCanonicalDecimal f t d)) (λ d. (d.scale < n) × IsCanonicalDecimal f t d)
+    Found n o = MatchOption o ((d : FixedPoint) → d.scale < n
+        → ¬ (IsCanonicalDecimal f t d)) (λ d. (d.scale < n) × IsCanonicalDecimal f t d)
 
     module _ (marks : MarksDecimals f) where
       -- a text that is canonical for a decimal has its digits
       units : (d : FixedPoint) → IsCanonicalDecimal f t d → denoted f t ≡ d.units
-      units d is_canonical = denoted-decimal f t d.units d.scale (tells-canonical_decimal f t d.units d.scale (plain-marks marks) is_canonical)
+      units d is_canonical = denoted-decimal f t d.units d.scale (tells-canonical_decimal f t d.units d.scale
+          (plain-marks marks) is_canonical)
 
-      found-next : (n : ℕ) → ¬ (IsCanonicalDecimal f t (fixed_point (denoted f t) n)) → (o : Option FixedPoint) → Found n o → Found (suc n) o
+      found-next : (n : ℕ) → ¬ (IsCanonicalDecimal f t (fixed_point (denoted f t) n)) → (o : Option FixedPoint) → Found n o
+          → Found (suc n) o
       found-next n not None none = λ d low is_canonical.
           let other : d.scale ≢ n =
           λ here. not (subst (IsCanonicalDecimal f t) (ap (fixed_point d.units) here
@@ -175,7 +179,8 @@ module _ (f : FormatData) (utf8 : HasUtf8Texts f) where
     unfolding why_refused
     why-is AmbiguousFormat cause = rw (unmarked cause) refl
     why-is NotUtf8 cause = rw (marks-Decides.1 cause.0, false_from_ne_true (is_utf8 t) (λ yes. cause.1 (IsUtf8-from_is_utf8 t yes))) refl
-    why-is (Unexpected at) cause = why-not_canonical cause.0 cause.1.is_not_canonical ∙ ap (why_left f t) cause.1.rest ∙ left-at at cause.1.inside
+    why-is (Unexpected at) cause = why-not_canonical cause.0 cause.1.is_not_canonical ∙ ap (why_left f t) cause.1.rest
+        ∙ left-at at cause.1.inside
     why-is NoDigit cause = why-not_canonical cause.0 cause.1.expected.is_not_canonical ∙ ap (why_left f t) cause.1.expected.rest
         ∙ rw cause.1.fault refl
     why-is TooManyDecimals cause =

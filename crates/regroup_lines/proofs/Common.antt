@@ -113,7 +113,8 @@ pub use Rattle.num_format.specs.Readable.{fits_i128, number_read}
 pub use Rattle.num_format.specs.Reading.{Refused, denoted, text_digits}
 pub use Rattle.num_format_decimal.specs.FixedPoint.{FixedPoint, fixed_point}
 pub use Rattle.num_format_decimal.specs.Marks.{IsPlainFormat, MarksDecimals}
-pub use Rattle.num_format_decimal.specs.Parsing.{DecimalResult, IsDecimalCause, IsExpectedDecimal, ParsesDecimal, IsCanonicalDecimal, IsNotCanonical}
+pub use Rattle.num_format_decimal.specs.Parsing.{DecimalResult, IsDecimalCause, IsExpectedDecimal, ParsesDecimal, IsCanonicalDecimal}
+pub use Rattle.num_format_decimal.specs.Parsing.{IsNotCanonical}
 pub use Rattle.num_format_decimal.specs.Parsing.{unexpected_in_decimal, with_separators, without_separators}
 pub use Rattle.num_format_decimal.specs.declared.parsing.ParseDecimalError.{ParseDecimalError}
 pub use Rattle.regroup_lines.specs.Csv.{before_as, before_field, doubled, field_with, is_barred, is_opened, number_place, output_delimiter}
