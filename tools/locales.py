@@ -1,5 +1,5 @@
 #!/usr/bin/env python3
-"""Writes the generated files of crates/num_format_locale, from the definitions in its specs/."""
+"""Writes the generated files of crates/num_format_cldr and num_format_locale, from the definitions in specs/."""
 import bisect
 import re
 import textwrap
@@ -10,7 +10,8 @@ from pathlib import Path
 from string import ascii_lowercase
 
 HERE = Path(__file__).resolve().parent
-CRATE = HERE.parent / "crates" / "num_format_locale"
+CRATES = HERE.parent / "crates"
+TABLE = CRATES / "num_format_cldr"
 WRITTEN = HERE / "locales_written.txt"
 MARK = "Written by tools/locales.py from specs/; do not edit."
 PIECE = 64  # rows in one module at most
@@ -99,7 +100,7 @@ def evaluated(tokens):
 @cache
 def definition(file, left):
     """The value of the definition with that left side: the rest of its line, and the indented lines after it."""
-    source = (CRATE / "specs" / file).read_text(encoding="utf-8")
+    source = (TABLE / "specs" / file).read_text(encoding="utf-8")
     right = re.search(rf"^{left} =(.*(?:\n .*)*)", source, re.MULTILINE)[1]
     return evaluated(iter(TOKEN.findall(right)))
 
@@ -177,30 +178,30 @@ def places_source(names):
 
 
 def generated_files():
-    """Each file that this script writes in the crate, with its text."""
+    """Each file that this script writes, with its text."""
     table = list(rows())
     names = [row["name"] for row in table]
     pieces = [table[start:start + PIECE] for start in range(0, len(table), PIECE)]
     modules = [module_name(piece) for piece in pieces]
     files = {
-        "src/cldr/rows.rt": dispatch_source(modules),
-        "src/cldr/name_list.rt": text("names", len=len(names), lines=filled(map(literal, names), " " * 4)),
-        "src/locale/constants.rt": constants_source(names),
-        "src/search/pair_list.rt": places_source(names),
+        "num_format_cldr/src/rows.rt": dispatch_source(modules),
+        "num_format_cldr/src/name_list.rt": text("names", len=len(names), lines=filled(map(literal, names), " " * 4)),
+        "num_format_locale/src/locale/constants.rt": constants_source(names),
+        "num_format_locale/src/search/pair_list.rt": places_source(names),
     }
     for number, (module, piece) in enumerate(zip(modules, pieces)):
-        files[f"src/cldr/rows/{module}.rt"] = piece_source(number, piece)
-        files[f"proofs/cldr/rows/{module}/rows/Answers.antt"] = text("answers", module=module)
+        files[f"num_format_cldr/src/rows/{module}.rt"] = piece_source(number, piece)
+        files[f"num_format_cldr/proofs/rows/{module}/rows/Answers.antt"] = text("answers", module=module)
     return files
 
 
 def main():
     files = generated_files()
-    for path in [*CRATE.glob("src/cldr/rows/*.rt"), *CRATE.glob("proofs/cldr/rows/*/rows/Answers.antt")]:
-        if path.relative_to(CRATE).as_posix() not in files:
+    for path in [*TABLE.glob("src/rows/*.rt"), *TABLE.glob("proofs/rows/*/rows/Answers.antt")]:
+        if path.relative_to(CRATES).as_posix() not in files:
             path.unlink()
     for name, text in files.items():
-        path = CRATE / name
+        path = CRATES / name
         path.parent.mkdir(parents=True, exist_ok=True)
         path.write_text(text, encoding="utf-8")
 

@@ -1,5 +1,5 @@
 #!/usr/bin/env python3
-"""Writes the locales of this crate from crates/num_format_locale/specs, which tools/locales.py reads.
+"""Writes the locales of this crate from crates/num_format_cldr/specs, which tools/locales.py reads.
 
     python3 packages/rust/write_locales.py            rewrites src/locale/table.rs
     python3 packages/rust/write_locales.py --check    compares it: the exit status is 1 if it is not what would be written
@@ -40,7 +40,7 @@ def table_row(row):
 def source(table):
     return f"""//! The locales, their names and their data.
 //!
-//! Written by packages/rust/write_locales.py from crates/num_format_locale/specs; do not edit.
+//! Written by packages/rust/write_locales.py from crates/num_format_cldr/specs; do not edit.
 
 use super::{{row, Row}};
 use crate::grouping::Grouping;

@@ -23,8 +23,8 @@ use Rattle.num_format_text.specs.GroupingNames.{grouping_name, grouping_named}
 use Rattle.num_format_text.specs.Format.{FormatData, IsWithinCapacity}
 use Rattle.num_format_int.specs.declared.buffer.TheConstants.{MAX_BUF_LEN}
 use Rattle.num_format.specs.Json.{buffer_in, buffer_json, bytes_in, format_in, format_json, locale_in, locale_json, locale_named}
-use Rattle.num_format_locale.specs.declared.cldr.TheConstants.{LEN}
-use Rattle.num_format_locale.specs.Table.{table_names}
+use Rattle.num_format_cldr.specs.declared.TheConstants.{LEN}
+use Rattle.num_format_cldr.specs.Table.{table_names}
 use Rattle.num_format_locale.specs.Names.{variant_name, variant_name_of}
 use Rattle.num_format_locale.proofs.NameLemmas.{length-table_names}
 use Rattle.num_format_locale.proofs.VariantLemmas.{variants_differ}

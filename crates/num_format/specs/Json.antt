@@ -13,7 +13,7 @@ use Rattle.num_format_text.specs.declared.grouping.Grouping.{Grouping}
 use Rattle.num_format_text.specs.Format.{FormatData}
 use Rattle.num_format_text.specs.GroupingNames.{grouping_name, grouping_named}
 use Rattle.num_format_int.specs.declared.buffer.TheConstants.{MAX_BUF_LEN}
-use Rattle.num_format_locale.specs.Table.{table_names}
+use Rattle.num_format_cldr.specs.Table.{table_names}
 use Rattle.num_format_locale.specs.Names.{variant_name, variant_name_of}
 use Rattle.num_format.specs.declared.json.JsonFault.{JsonFault}
 use Rattle.num_format.specs.declared.json.JsonFault.TheVariants as fault

@@ -2,7 +2,7 @@
 use Rattle.std.specs.Prelude.{◌≡◌, ℕ, ◌<◌, ◌≤◌, List, length, IsUtf8, Ok}
 use Rattle.num_format_text.specs.Format.{FormatData, IsWithinCapacity}
 use Rattle.num_format_int.specs.declared.buffer.TheConstants.{MAX_BUF_LEN}
-use Rattle.num_format_locale.specs.declared.cldr.TheConstants.{LEN}
+use Rattle.num_format_cldr.specs.declared.TheConstants.{LEN}
 use Rattle.num_format.specs.Json.{buffer_in, buffer_json, format_in, format_json, locale_in, locale_json}
 pub use Rattle.num_format_int.specs.Laws.{BoundLaw, DigitsLaw, EndsLaw, LengthLaw}
 pub use Rattle.num_format_parsing.specs.Laws.{HasUsize, MinusSignLaw, ReadableLaw, StrictErrorHashLaw}

@@ -21,10 +21,10 @@ pub use Rattle.num_format_parsing.specs.Reading
 pub use Rattle.num_format_parsing.specs.Strict
 pub use Rattle.num_format_parsing.specs.declared.error.ParseBytesError
 pub use Rattle.num_format_parsing.specs.declared.error.StrictError
-pub use Rattle.num_format_locale.specs.Entry
-pub use Rattle.num_format_locale.specs.Families
-pub use Rattle.num_format_locale.specs.Groupings
-pub use Rattle.num_format_locale.specs.Table
+pub use Rattle.num_format_cldr.specs.Entry
+pub use Rattle.num_format_cldr.specs.Families
+pub use Rattle.num_format_cldr.specs.Groupings
+pub use Rattle.num_format_cldr.specs.Table
 pub use Rattle.num_format_locale.specs.Data
 pub use Rattle.num_format_locale.specs.Lookup
 pub use Rattle.num_format_locale.specs.Names

@@ -2,11 +2,11 @@
 use Rattle.std.proofs.Common.{◌≡◌, ℕ, suc, ◌<◌, List, ap, arith, get_or, ◌∙◌, refl, sym, subst, encode_utf8_all}
 use Rattle.std.specs.Str.{chars}
 use lib.Utf8.{encode}
-use Rattle.num_format_locale.specs.Classes.{Class, A, B, C, D, E, F, G, H, decimal_mark_of, separator_of}
-use Rattle.num_format_locale.specs.declared.cldr.TheConstants.{LEN}
-use Rattle.num_format_locale.specs.Entry.{Entry}
-use Rattle.num_format_locale.specs.Table.{entry}
-use Rattle.num_format_locale.proofs.Places.{entry-member, member}
+use Rattle.num_format_cldr.specs.Classes.{Class, A, B, C, D, E, F, G, H, decimal_mark_of, separator_of}
+use Rattle.num_format_cldr.specs.declared.TheConstants.{LEN}
+use Rattle.num_format_cldr.specs.Entry.{Entry}
+use Rattle.num_format_cldr.specs.Table.{entry}
+use Rattle.num_format_cldr.proofs.Places.{entry-member, member}
 use Rattle.num_format_parsing.proofs.ReadingLemmas.{ucd_category}
 use Rattle.num_format_parsing.specs.Strict.{HasNoNumeral}
 use Rattle.num_format_decimal.specs.Marks.{IsMark}

@@ -1,7 +1,3 @@
-pub mod Shown
-pub mod Places
-pub mod Facts
-pub mod Rising
 pub mod LookupLemmas
 pub mod NameLemmas
 pub mod PairLemmas

@@ -18,10 +18,10 @@ use Rattle.std.proofs.lemmas.List.{length-take, length-take-le, take-append-drop
 use Rattle.std.proofs.lemmas.List.Sorted.{searchable_from_sorted}
 use Rattle.std.proofs.lemmas.List.Sums.{AllPass-from_list_all, prefix_len-le-length, take_while-cons}
 use lib.Utf8.{encode}
-use Rattle.num_format_locale.specs.declared.cldr.TheConstants.{LEN}
-use Rattle.num_format_locale.specs.Families.{families}
-use Rattle.num_format_locale.specs.Table.{members, table_names}
-use Rattle.num_format_locale.proofs.Rising.{rises, Rises-from_test}
+use Rattle.num_format_cldr.specs.declared.TheConstants.{LEN}
+use Rattle.num_format_cldr.specs.Families.{families}
+use Rattle.num_format_cldr.specs.Table.{members, table_names}
+use Rattle.num_format_cldr.proofs.Rising.{rises, Rises-from_test}
 use Rattle.num_format_locale.specs.Lookup.{IsLongestMatch, IsPosix, IsSameIgnoringCase, LooksUpTag, Matches, ends_language, language_of}
 use Rattle.num_format_locale.specs.Names.{name_of}
 use Rattle.num_format_locale.specs.Search.{hyphen_for_underscore, hyphened}

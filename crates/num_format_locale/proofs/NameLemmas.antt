@@ -12,11 +12,11 @@ use Rattle.std.proofs.lemmas.Bool.{cases_lt}
 use Rattle.std.proofs.lemmas.Bool.Decides.{nat_tests}
 use Rattle.std.proofs.lemmas.Cmp.{nat_list_cmp_total, tied_itself}
 use Rattle.std.proofs.lemmas.List.{get_or-map, length-map}
-use Rattle.num_format_locale.specs.declared.cldr.TheConstants.{LEN}
-use Rattle.num_format_locale.specs.Entry.{Rises}
-use Rattle.num_format_locale.specs.Table.{members, table_names}
-use Rattle.num_format_locale.proofs.Places.{length-members}
-use Rattle.num_format_locale.proofs.Rising.{names_rise, names_have_no_underscore}
+use Rattle.num_format_cldr.specs.declared.TheConstants.{LEN}
+use Rattle.num_format_cldr.specs.Entry.{Rises}
+use Rattle.num_format_cldr.specs.Table.{members, table_names}
+use Rattle.num_format_cldr.proofs.Places.{length-members}
+use Rattle.num_format_cldr.proofs.Rising.{names_rise, names_have_no_underscore}
 use Rattle.num_format_locale.specs.Laws.{OrderLaw, UniqueLaw}
 use Rattle.num_format_locale.specs.Names.{Spells, name_of, underscore_for_hyphen}
 use Rattle.num_format_locale.specs.Search.{hyphen_for_underscore, hyphened}

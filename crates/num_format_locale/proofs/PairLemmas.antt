@@ -9,8 +9,8 @@ use Rattle.std.proofs.lemmas.Bool.{leb-true, ltb-true}
 use Rattle.std.proofs.lemmas.Bool.Decides.{nat_tests}
 use Rattle.std.proofs.lemmas.List.{length-map}
 use Rattle.std.proofs.lemmas.List.Sums.{AllPass-from_list_all}
-use Rattle.num_format_locale.specs.declared.cldr.TheConstants.{LEN}
-use Rattle.num_format_locale.specs.Table.{table_names}
+use Rattle.num_format_cldr.specs.declared.TheConstants.{LEN}
+use Rattle.num_format_cldr.specs.Table.{table_names}
 use Rattle.num_format_locale.specs.Lookup.{IsSameIgnoringCase}
 use Rattle.num_format_locale.specs.Names.{name_of}
 use Rattle.num_format_locale.specs.Pairs.{IsListed, IsOfPair, ListsPairs, pairs, place_of_pair}

@@ -10,7 +10,7 @@ use Rattle.std.proofs.Math.Nat.{pow-suc}
 use Rattle.std.proofs.lemmas.Bool.{cases_lt}
 use Rattle.std.proofs.lemmas.Cmp.{nat_list_cmp_total, ranked}
 use Rattle.std.proofs.lemmas.List.Elements.{Contains-push, Contains-append_left}
-use Rattle.num_format_locale.specs.declared.cldr.TheConstants.{LEN}
+use Rattle.num_format_cldr.specs.declared.TheConstants.{LEN}
 use Rattle.num_format_text.specs.declared.error.Error.{Error}
 use Rattle.num_format_text.specs.Cut.{cut_text}
 use Rattle.num_format_text.specs.Refusal.{ParseLocale, refusal_of}

@@ -10,10 +10,10 @@ use Rattle.std.proofs.lemmas.List.{take_all}
 use Rattle.std.proofs.lemmas.List.Sums.{AllPass-from_list_all, take_while-cons}
 use Rattle.std.proofs.lemmas.Slice.Eq.{bytes_eq-Decides}
 use lib.Utf8.{encode}
-use Rattle.num_format_locale.specs.declared.cldr.TheConstants.{LEN}
-use Rattle.num_format_locale.specs.Families.{families}
-use Rattle.num_format_locale.specs.Table.{members, table_names}
-use Rattle.num_format_locale.proofs.Rising.{Rises-from_test}
+use Rattle.num_format_cldr.specs.declared.TheConstants.{LEN}
+use Rattle.num_format_cldr.specs.Families.{families}
+use Rattle.num_format_cldr.specs.Table.{members, table_names}
+use Rattle.num_format_cldr.proofs.Rising.{Rises-from_test}
 use Rattle.num_format_locale.specs.Laws.{FoundByTagLaw}
 use Rattle.num_format_locale.specs.Lookup.{IsLongestMatch, IsPosix, IsSameIgnoringCase, LooksUpTag, Matches, ends_language, language_of}
 use Rattle.num_format_locale.specs.Names.{name_of}

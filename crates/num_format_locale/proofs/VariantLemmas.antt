@@ -11,11 +11,11 @@ use Rattle.std.proofs.lemmas.Cmp.{nat_list_cmp_total, tied_itself}
 use Rattle.std.proofs.lemmas.List.{get_or-map, length-map}
 use Rattle.std.proofs.lemmas.List.Sorted.{searchable_from_sorted}
 use lib.Utf8.{encode}
-use Rattle.num_format_locale.specs.declared.cldr.TheConstants.{LEN}
-use Rattle.num_format_locale.specs.Entry.{Rises}
-use Rattle.num_format_locale.specs.Families.{families}
-use Rattle.num_format_locale.specs.Table.{members, table_names}
-use Rattle.num_format_locale.proofs.Rising.{rises, Rises-from_test}
+use Rattle.num_format_cldr.specs.declared.TheConstants.{LEN}
+use Rattle.num_format_cldr.specs.Entry.{Rises}
+use Rattle.num_format_cldr.specs.Families.{families}
+use Rattle.num_format_cldr.specs.Table.{members, table_names}
+use Rattle.num_format_cldr.proofs.Rising.{rises, Rises-from_test}
 use Rattle.num_format_locale.specs.Laws.{VariantLaw}
 use Rattle.num_format_locale.specs.Names.{variant_name, variant_name_of}
 use Rattle.num_format_locale.proofs.NameLemmas.{length-table_names, same_place}

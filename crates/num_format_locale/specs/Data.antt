@@ -1,8 +1,8 @@
 -- The data of a locale: how it writes numbers.
 use Rattle.std.specs.Prelude.{ℕ, ◌==◌, if◌then◌else◌}
-use Rattle.num_format_locale.specs.Entry.{Entry}
-use Rattle.num_format_locale.specs.Groupings.{standard, indian}
-use Rattle.num_format_locale.specs.Table.{entry}
+use Rattle.num_format_cldr.specs.Entry.{Entry}
+use Rattle.num_format_cldr.specs.Groupings.{standard, indian}
+use Rattle.num_format_cldr.specs.Table.{entry}
 use Rattle.num_format_text.specs.declared.grouping.Grouping.{Grouping}
 use Rattle.num_format_text.specs.declared.grouping.Grouping.TheVariants.{Standard, Indian, Posix}
 use Rattle.num_format_text.specs.Format.{FormatData}

@@ -4,9 +4,9 @@ use Rattle.std.specs.Hash.{HashWrites}
 use Rattle.std.specs.Ordering.{nat_cmp}
 use Rattle.std.specs.declared.cmp.Ordering.{Ordering}
 use Rattle.std.specs.Cmp.Lexicographic.{slice_cmp}
-use Rattle.num_format_locale.specs.declared.cldr.TheConstants.{LEN}
-use Rattle.num_format_locale.specs.Entry.{IsWellFormed}
-use Rattle.num_format_locale.specs.Table.{entry}
+use Rattle.num_format_cldr.specs.declared.TheConstants.{LEN}
+use Rattle.num_format_cldr.specs.Entry.{IsWellFormed}
+use Rattle.num_format_cldr.specs.Table.{entry}
 use Rattle.num_format_text.specs.Equality.{HashLaw}
 use Rattle.num_format_text.specs.declared.error.Error.{Error}
 use Rattle.num_format_locale.specs.Lookup.{IsSameIgnoringCase, LooksUpTag}

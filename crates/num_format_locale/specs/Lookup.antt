@@ -1,5 +1,5 @@
 -- The locale as which a language tag is looked up: that of the longest name with which the tag begins.
-use Rattle.num_format_locale.specs.declared.cldr.TheConstants.{LEN}
+use Rattle.num_format_cldr.specs.declared.TheConstants.{LEN}
 use Rattle.std.specs.Prelude.{ℕ, ◌<◌, ◌≤◌, ◌==◌, ◌||◌, ◌≡◌, ◌⊎◌, Bool, List, ◌∷◌, ◌++◌, length, map, codes, Option, IfSome, IfNone}
 use Rattle.std.specs.Char.{to_ascii_lowercase}
 use Rattle.std.specs.List.{before_first}

@@ -1,9 +1,9 @@
 -- The names of the locales and of their variants, and which texts spell a name.
-use Rattle.num_format_locale.specs.declared.cldr.TheConstants.{LEN}
+use Rattle.num_format_cldr.specs.declared.TheConstants.{LEN}
 use Rattle.std.specs.Prelude.{ℕ, ◌<◌, ◌==◌, ◌≡◌, ◌⊎◌, List, [], map, bytes_eq, codes, slice_index_or, Result, Ok, IfOk, IfErr, OnErr}
 use Rattle.std.specs.Prelude.{if◌then◌else◌}
 use Rattle.std.specs.Str.{byte}
-use Rattle.num_format_locale.specs.Table.{table_names}
+use Rattle.num_format_cldr.specs.Table.{table_names}
 use Rattle.num_format_text.specs.declared.error.Error.{Error}
 use Rattle.num_format_text.specs.Cut.{cut_text}
 use Rattle.num_format_text.specs.Refusal.{ParseLocale, refusal_of}

@@ -1,5 +1,5 @@
 -- Which comparisons with names settle the result of looking a text up.
-use Rattle.num_format_locale.specs.declared.cldr.TheConstants.{LEN}
+use Rattle.num_format_cldr.specs.declared.TheConstants.{LEN}
 use Rattle.std.specs.Prelude.{ℕ, ◌+◌, ◌-◌, ◌/◌, ◌<◌, ◌≤◌, ◌==◌, ◌≡◌, ◌⊎◌, List, [], ◌∷◌, ◌++◌, map, Contains, Result, IfOk, OnErr}
 use Rattle.std.specs.Prelude.{if◌then◌else◌}
 use Rattle.std.specs.Ordering.{nat_cmp}

@@ -1,11 +1,11 @@
 //! The locales of num-format, by name.
 //!
-//! `tools/locales.py` writes `constants.rt`, `pair_list.rt`, `cldr/name_list.rt`, `cldr/rows` and `proofs/cldr/rows`
-//! from `specs/`. Any other file may be changed.
+//! `tools/locales.py` writes `constants.rt` and `pair_list.rt` from the names of `num_format_cldr`. Any other file may
+//! be changed.
 //!
 //! A [`Locale`] is a [`Format`](num_format_text::Format): it says how digits are grouped, and which
 //! texts stand for the decimal mark, the separator, the signs, infinity and NaN. Its data are a row
-//! of the table [`cldr`], which has them from the Unicode CLDR by the Rust crate `num-format` 0.4.4,
+//! of the table `num_format_cldr`, which has them from the Unicode CLDR by the Rust crate `num-format` 0.4.4,
 //! and its name is that row's.
 //!
 //! ```rust
@@ -33,7 +33,6 @@
 //! ```
 #![tactic(auto)]
 
-pub mod cldr;
 pub mod laws;
 pub mod locale;
 mod lookup;

@@ -1,10 +1,10 @@
 //! The type `Locale`: how a locale is found by its name, and what its texts are.
 //!
-//! The data of a locale are a row of the table of `cldr`. A name is looked up by binary search.
+//! The data of a locale are a row of `num_format_cldr`. A name is looked up by binary search.
 ghost use Rattle.std.specs.Prelude.{◌≡◌, ◌≢◌, ℕ, ◌<◌, ◌≤◌, [], length, map, All, Contains, Some, IfSome};
 ghost use Rattle.std.specs.Fmt.{WritesOnOk, WritesStyledOnOk};
-ghost use Rattle.num_format_locale.specs.Entry.{IsWellFormed, Rises, Shows};
-ghost use Rattle.num_format_locale.specs.Table.{entry, table_names};
+ghost use Rattle.num_format_cldr.specs.Entry.{IsWellFormed, Rises, Shows};
+ghost use Rattle.num_format_cldr.specs.Table.{entry, table_names};
 ghost use Rattle.num_format_locale.specs.Data.{locale_data};
 ghost use Rattle.num_format_locale.specs.Lookup.{LooksUpTag};
 ghost use Rattle.num_format_locale.specs.Names.{LooksUp, name_of, variant_name, variant_name_of};
@@ -12,10 +12,10 @@ ghost use Rattle.num_format_locale.specs.Search.{Halves, Settles};
 ghost use Rattle.num_format_text.specs.Cut.{cut_text};
 ghost use Rattle.num_format_text.specs.Refusal.{ParseLocale, refusal_of};
 
-use crate::cldr::{self, LEN, Row};
 use crate::lookup::{language, longest_match};
 use crate::search::{find, find_hyphened, search};
 use arrayvec::ArrayVec;
+use num_format_cldr::{LEN, Row};
 use num_format_text::capacities::{
     MAX_DEC_LEN, MAX_INF_LEN, MAX_MIN_LEN, MAX_NAN_LEN, MAX_PLUS_LEN, MAX_SEP_LEN,
 };
@@ -47,7 +47,7 @@ pub struct Locale {
 
 impl Model for Locale {
     ghost use Rattle.std.specs.Prelude.{ℕ, ◌<◌};
-    ghost use Rattle.num_format_locale.specs.declared.cldr.TheConstants.{LEN};
+    ghost use Rattle.num_format_cldr.specs.declared.TheConstants.{LEN};
 
     ghost Value = { ℕ };
 
@@ -180,7 +180,7 @@ impl Locale {
         // 95 is the underscore.
         ensures no_underscore { All (λ name. Contains name 95 → ⊥) table_names }
     {
-        cldr::names()
+        num_format_cldr::names()
     }
 
     /// Returns the name, with hyphens. [`from_name`](Locale::from_name) of it is the locale.
@@ -319,7 +319,7 @@ impl Locale {
         ensures named { result.now.name.now ≡ name_of self.now }
         ensures within { self.now < LEN }
     {
-        cldr::row(self.place as usize)
+        num_format_cldr::row(self.place as usize)
     }
 }
 

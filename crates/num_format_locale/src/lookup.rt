@@ -4,12 +4,11 @@ ghost use Rattle.std.specs.Prelude.{◌≡◌, ℕ, ◌+◌, ◌<◌, IfNone, If
 ghost use Rattle.std.specs.Char.{to_ascii_lowercase};
 ghost use Rattle.std.specs.Ordering.{nat_cmp};
 ghost use Rattle.std.specs.Cmp.Lexicographic.{slice_cmp};
-ghost use Rattle.num_format_locale.specs.declared.cldr.TheConstants.{LEN};
+ghost use Rattle.num_format_cldr.specs.declared.TheConstants.{LEN};
 ghost use Rattle.num_format_locale.specs.Lookup.{IsLongestMatch, IsSameIgnoringCase, Matches, language_of};
 ghost use Rattle.num_format_locale.specs.Names.{name_of};
 ghost use Rattle.num_format_locale.specs.Search.{hyphened};
 
-use crate::cldr;
 use crate::search::{narrowed, with_hyphen};
 use std::cmp::Ordering;
 
@@ -53,7 +52,7 @@ fn find_ignoring_case(text: &[u8]) -> Option<usize>
         → ¬ IsSameIgnoringCase (hyphened text.now) (name_of place)) }
 {
     let (low, high) = narrowed(text);
-    let names = &cldr::names()[low..high];
+    let names = &num_format_cldr::names()[low..high];
     match names.binary_search_by(|name| compare_ignoring_case(name.as_bytes(), text)) {
         Ok(place) => Some(low + place),
         Err(_) => None,

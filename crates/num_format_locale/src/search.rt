@@ -4,15 +4,15 @@
 ghost use Rattle.std.specs.Prelude.{◌≡◌, ℕ, ◌<◌, ◌≤◌, ◌↔◌, IfNone, IfSome, IsTrue};
 ghost use Rattle.std.specs.Ordering.{nat_cmp};
 ghost use Rattle.std.specs.Cmp.Lexicographic.{slice_cmp};
-ghost use Rattle.num_format_locale.specs.declared.cldr.TheConstants.{LEN};
+ghost use Rattle.num_format_cldr.specs.declared.TheConstants.{LEN};
 ghost use Rattle.num_format_locale.specs.Lookup.{IsSameIgnoringCase};
 ghost use Rattle.num_format_locale.specs.Names.{Spells, name_of};
 ghost use Rattle.num_format_locale.specs.Pairs.{ListsPairs};
 ghost use Rattle.num_format_locale.specs.Search.{Finds, Halves, IsBetween, IsLast, IsMixed, RulesOut};
 ghost use Rattle.num_format_locale.specs.Search.{hyphen_for_underscore, hyphened};
 
-use crate::cldr::{self, LEN};
 use arrayvec::ArrayVec;
+use num_format_cldr::LEN;
 use std::cmp::Ordering;
 
 mod pair_list;
@@ -122,7 +122,7 @@ fn compare(text: &[u8], place: usize) -> Ordering
     requires { place < LEN }
     ensures { result ≡ slice_cmp nat_cmp (hyphened text.now) (name_of place) }
 {
-    let name = cldr::names()[place].as_bytes();
+    let name = num_format_cldr::names()[place].as_bytes();
     text.iter()
         .map(|byte| with_hyphen(*byte))
         .cmp(name.iter().copied())

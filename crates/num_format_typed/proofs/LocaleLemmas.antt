@@ -7,12 +7,12 @@ use Rattle.std.proofs.lemmas.List.Elements.{All-get_or}
 use Rattle.std.proofs.lemmas.List.Sums.{AllPass-from_list_all}
 use lib.Utf8.{encode}
 use Rattle.num_format_locale.specs.Data.{data_of, locale_data}
-use Rattle.num_format_locale.specs.Entry.{Entry, no_entry}
-use Rattle.num_format_locale.specs.Families.{families}
-use Rattle.num_format_locale.specs.Table.{entry_of, members, table}
-use Rattle.num_format_locale.specs.declared.cldr.TheConstants.{LEN}
-use Rattle.num_format_locale.proofs.Facts.{entry_is_well_formed}
-use Rattle.num_format_locale.proofs.Places.{length-members}
+use Rattle.num_format_cldr.specs.Entry.{Entry, no_entry}
+use Rattle.num_format_cldr.specs.Families.{families}
+use Rattle.num_format_cldr.specs.Table.{entry_of, members, table}
+use Rattle.num_format_cldr.specs.declared.TheConstants.{LEN}
+use Rattle.num_format_cldr.proofs.Facts.{entry_is_well_formed}
+use Rattle.num_format_cldr.proofs.Places.{length-members}
 use Rattle.num_format_parsing.proofs.CommonLemmas.{unambiguous_from_common}
 use Rattle.num_format_typed.specs.Typed.{IsTypable, core_of, separator_of}
 use Rattle.num_format_typed.proofs.TypableLemmas.{passes, typable}

@@ -1,6 +1,6 @@
 //! The locales, their names and their data.
 //!
-//! Written by packages/rust/write_locales.py from crates/num_format_locale/specs; do not edit.
+//! Written by packages/rust/write_locales.py from crates/num_format_cldr/specs; do not edit.
 
 use super::{row, Row};
 use crate::grouping::Grouping;

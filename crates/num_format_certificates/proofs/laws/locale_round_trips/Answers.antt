@@ -1,4 +1,4 @@
-use Rattle.num_format_locale.proofs.Facts.{entry_is_well_formed}
+use Rattle.num_format_cldr.proofs.Facts.{entry_is_well_formed}
 use Rattle.num_format_parsing.proofs.CommonLemmas.{unambiguous_from_common}
 use Rattle.num_format_certificates.proofs.laws.locale_round_trips.Goals as goal
 

@@ -1,4 +1,4 @@
-use Rattle.num_format_locale.proofs.Facts.{entry_is_well_formed}
+use Rattle.num_format_cldr.proofs.Facts.{entry_is_well_formed}
 use Rattle.num_format_locale.proofs.laws.well_formed_data.Goals as goal
 
 pub returns : goal.returns

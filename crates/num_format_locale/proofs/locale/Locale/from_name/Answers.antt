@@ -1,5 +1,5 @@
 use Rattle.std.proofs.Common.{subst, ℕ, ◌<◌}
-use Rattle.num_format_locale.specs.declared.cldr.TheConstants.{LEN}
+use Rattle.num_format_cldr.specs.declared.TheConstants.{LEN}
 use Rattle.num_format_locale.specs.Names.{Spells, name_of}
 use Rattle.num_format_locale.proofs.SearchLemmas.{looked_up, refused}
 use Rattle.num_format_locale.proofs.locale.Locale.from_name.Goals as goal

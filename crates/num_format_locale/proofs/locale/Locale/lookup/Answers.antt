@@ -1,5 +1,5 @@
 use Rattle.std.proofs.Common.{◌≡◌, ℕ, ◌<◌, ◌∙◌, ap, sym, subst, take, inl, inr, rules}
-use Rattle.num_format_locale.specs.declared.cldr.TheConstants.{LEN}
+use Rattle.num_format_cldr.specs.declared.TheConstants.{LEN}
 use Rattle.num_format_locale.specs.Lookup.{IsLongestMatch, IsPosix, Matches, language_of}
 use Rattle.num_format_locale.specs.Names.{name_of}
 use Rattle.num_format_locale.specs.Search.{hyphened}

@@ -1,0 +1,9 @@
+pub mod Entry
+pub mod Classes
+pub mod Families
+pub mod Unusual
+pub mod Groupings
+pub mod Infinities
+pub mod Signs
+pub mod Nans
+pub mod Table
