@@ -25,8 +25,7 @@ use Rattle.num_format_decimal.specs.declared.error.DecimalError.{DecimalError}
 use Rattle.num_format_decimal.specs.declared.error.DecimalError.TheVariants as rescale
 use Rattle.num_format_decimal.specs.declared.parsing.ParseAtScaleError.{ParseAtScaleError}
 use Rattle.num_format_decimal.specs.declared.parsing.ParseAtScaleError.TheVariants.{Parse, Rescale}
-use Rattle.num_format_decimal.specs.declared.parsing.ParseDecimalError.{ParseDecimalError}
-use Rattle.num_format_decimal.specs.declared.parsing.ParseDecimalError.TheVariants as decimal
+use Rattle.num_format_parsing.specs.declared.error.StrictError.{StrictError}
 use Rattle.num_format_digits.specs.Digits.{digits_named, in_digits, set_numbered}
 use Rattle.num_format_digits.specs.Parsing.{AtScaleInDigits, DecimalInDigits, ParsesInDigits, TypedAtScaleInDigits, TypedDecimalInDigits}
 use Rattle.num_format_digits.specs.Parsing.{TypedInDigits}
@@ -149,26 +148,13 @@ status_of cause.AmbiguousFormat = AmbiguousFormat
 status_of cause.NotUtf8 = NotUtf8
 status_of (cause.Unexpected at) = Unexpected
 status_of cause.NoDigit = NoDigit
+status_of cause.TooManyDecimals = TooManyDecimals
 status_of cause.Misspelled = Misspelled
 status_of cause.OutOfRange = OutOfRange
 
 abbrev pub place_of : StrictError → ℕ → ℕ
 place_of (cause.Unexpected at) old = at
 place_of _ old = old
-
--- those of decimals
-abbrev pub decimal_status_of : ParseDecimalError → Status
-decimal_status_of decimal.AmbiguousFormat = AmbiguousFormat
-decimal_status_of decimal.NotUtf8 = NotUtf8
-decimal_status_of (decimal.Unexpected at) = Unexpected
-decimal_status_of decimal.NoDigit = NoDigit
-decimal_status_of decimal.TooManyDecimals = TooManyDecimals
-decimal_status_of decimal.Misspelled = Misspelled
-decimal_status_of decimal.OutOfRange = OutOfRange
-
-abbrev pub decimal_place_of : ParseDecimalError → ℕ → ℕ
-decimal_place_of (decimal.Unexpected at) old = at
-decimal_place_of _ old = old
 
 -- those of scales, and of decimals of a scale
 abbrev pub rescale_status_of : DecimalError → Status
@@ -177,11 +163,11 @@ rescale_status_of rescale.DigitsLost = DigitsLost
 rescale_status_of rescale.OutOfRange = OutOfRange
 
 abbrev pub at_scale_status_of : ParseAtScaleError → Status
-at_scale_status_of (Parse e) = decimal_status_of e
+at_scale_status_of (Parse e) = status_of e
 at_scale_status_of (Rescale e) = rescale_status_of e
 
 abbrev pub at_scale_place_of : ParseAtScaleError → ℕ → ℕ
-at_scale_place_of (Parse e) old = decimal_place_of e old
+at_scale_place_of (Parse e) old = place_of e old
 at_scale_place_of (Rescale e) old = old
 
 -- those of typed texts
@@ -221,20 +207,20 @@ typed_numbers k = record {
   place = typed_place_of place_of;
 }
 
-abbrev pub decimals : Parsing FixedPoint ParseDecimalError
+abbrev pub decimals : Parsing FixedPoint StrictError
 decimals = record {
   Returns = DecimalResult;
   ReturnsIn = DecimalInDigits;
-  status = decimal_status_of;
-  place = decimal_place_of;
+  status = status_of;
+  place = place_of;
 }
 
-abbrev pub typed_decimals : Parsing FixedPoint (TypedError ParseDecimalError)
+abbrev pub typed_decimals : Parsing FixedPoint (TypedError StrictError)
 typed_decimals = record {
   Returns = TypedDecimalResult;
   ReturnsIn = TypedDecimalInDigits;
-  status = typed_status_of decimal_status_of;
-  place = typed_place_of decimal_place_of;
+  status = typed_status_of status_of;
+  place = typed_place_of place_of;
 }
 
 abbrev pub at_scale : (scale : ℕ) → Parsing FixedPoint ParseAtScaleError

@@ -385,7 +385,7 @@ pub extern "C" fn num_format_parse_strict_i128(
 /// returns 0.
 ///
 /// Errors, in this order: a struct that has no format, and those of
-/// [`ParseDecimalError`](num_format_decimal::ParseDecimalError). The place of an unexpected byte is written.
+/// [`StrictError`](num_format_decimal::StrictError). The place of an unexpected byte is written.
 #[unsafe(no_mangle)]
 pub extern "C" fn num_format_parse_decimal(
     format: &NumFormat,

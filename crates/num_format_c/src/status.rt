@@ -1,12 +1,12 @@
 //! The errors of the calls, and the numbers by which they cross to C.
 ghost use Rattle.std.specs.Prelude.{◌≡◌};
 ghost use Rattle.num_format_c.specs.Calls.{Stores, at_scale_place_of, at_scale_status_of, code, crossed};
-ghost use Rattle.num_format_c.specs.Calls.{decimal_place_of, decimal_status_of, digits_place_of, digits_status_of};
-ghost use Rattle.num_format_c.specs.Calls.{place_after, place_of, rescale_status_of, returned, status_of};
+ghost use Rattle.num_format_c.specs.Calls.{digits_place_of, digits_status_of, place_after, place_of};
+ghost use Rattle.num_format_c.specs.Calls.{rescale_status_of, returned, status_of};
 ghost use Rattle.num_format_c.specs.Calls.{typed_place_of, typed_status_of};
 
 use num_format::parsing::StrictError;
-use num_format_decimal::{DecimalError, ParseAtScaleError, ParseDecimalError};
+use num_format_decimal::{DecimalError, ParseAtScaleError};
 use num_format_digits::DigitsError;
 use num_format_int::sealed::Sealed;
 use num_format_typed::TypedError;
@@ -123,29 +123,9 @@ impl Cause for StrictError {
                 Status::Unexpected
             }
             StrictError::NoDigit => Status::NoDigit,
+            StrictError::TooManyDecimals => Status::TooManyDecimals,
             StrictError::Misspelled => Status::Misspelled,
             StrictError::OutOfRange => Status::OutOfRange,
-        }
-    }
-}
-
-impl Cause for ParseDecimalError {
-    ghost status_of = { decimal_status_of };
-
-    ghost place_of = { decimal_place_of };
-
-    fn status(self, at: &mut usize) -> Status {
-        match self {
-            ParseDecimalError::AmbiguousFormat => Status::AmbiguousFormat,
-            ParseDecimalError::NotUtf8 => Status::NotUtf8,
-            ParseDecimalError::Unexpected { at: position } => {
-                *at = position;
-                Status::Unexpected
-            }
-            ParseDecimalError::NoDigit => Status::NoDigit,
-            ParseDecimalError::TooManyDecimals => Status::TooManyDecimals,
-            ParseDecimalError::Misspelled => Status::Misspelled,
-            ParseDecimalError::OutOfRange => Status::OutOfRange,
         }
     }
 }

@@ -8,9 +8,9 @@ use Rattle.num_format_decimal.specs.declared.error.DecimalError.{DecimalError}
 use Rattle.num_format_decimal.specs.declared.error.DecimalError.TheVariants as scale_error
 use Rattle.num_format_decimal.specs.declared.parsing.ParseAtScaleError.{ParseAtScaleError}
 use Rattle.num_format_decimal.specs.declared.parsing.ParseAtScaleError.TheVariants.{Parse, Rescale}
-use Rattle.num_format_decimal.specs.declared.parsing.ParseDecimalError.{ParseDecimalError}
-use Rattle.num_format_decimal.specs.declared.parsing.ParseDecimalError.TheVariants.{AmbiguousFormat, NotUtf8, Unexpected, NoDigit}
-use Rattle.num_format_decimal.specs.declared.parsing.ParseDecimalError.TheVariants.{TooManyDecimals, Misspelled, OutOfRange}
+use Rattle.num_format_parsing.specs.declared.error.StrictError.{StrictError}
+use Rattle.num_format_parsing.specs.declared.error.StrictError.TheVariants.{AmbiguousFormat, NotUtf8, Unexpected, NoDigit}
+use Rattle.num_format_parsing.specs.declared.error.StrictError.TheVariants.{TooManyDecimals, Misspelled, OutOfRange}
 use Rattle.num_format_decimal.specs.declared.rounding.Rounding.TheVariants.{Exact}
 use Rattle.num_format_decimal.specs.FixedPoint.{FixedPoint}
 use Rattle.num_format_decimal.specs.Marks.{IsPlainFormat, MarksDecimals}
@@ -36,7 +36,7 @@ utf8-canonical : (f : FormatData) (t : List ℕ) (d : FixedPoint) → IsPlainFor
 utf8-canonical f t d plain is_canonical = (tells-canonical_decimal f t d.units d.scale plain is_canonical).utf8
 
 module _ (f : FormatData) (t : List ℕ) (plain : IsPlainFormat f) (marks : MarksDecimals f) where
-  canonical_cause : (d : FixedPoint) (e : ParseDecimalError) → IsCanonicalDecimal f t d → d.scale ≤ MAX_SCALE → IsDecimalCause f t e
+  canonical_cause : (d : FixedPoint) (e : StrictError) → IsCanonicalDecimal f t d → d.scale ≤ MAX_SCALE → IsDecimalCause f t e
       → (e ≡ OutOfRange) × ¬ (HasUnits d)
   canonical_cause d AmbiguousFormat is_canonical bound p = absurd (p marks)
   canonical_cause d NotUtf8 is_canonical bound p = absurd (p.1 (utf8-canonical f t d plain is_canonical))
@@ -48,7 +48,7 @@ module _ (f : FormatData) (t : List ℕ) (plain : IsPlainFormat f) (marks : Mark
       (refl, λ fits. p.1.wrong (subst HasUnits (canonical_once f t d p.1.decimal plain marks.apart is_canonical p.1.canonical) fits))
 
   -- two causes of one refusal are the same
-  only_cause : (d e : ParseDecimalError) → IsDecimalCause f t d → IsDecimalCause f t e → d ≡ e
+  only_cause : (d e : StrictError) → IsDecimalCause f t d → IsDecimalCause f t e → d ≡ e
   only_cause AmbiguousFormat e p q = absurd (p marks)
   only_cause OutOfRange e p q = sym (canonical_cause p.1.decimal e p.1.canonical p.1.bound q).0
   only_cause d AmbiguousFormat p q = absurd (q marks)
@@ -70,7 +70,7 @@ module _ (f : FormatData) (t : List ℕ) (plain : IsPlainFormat f) (marks : Mark
   only_cause Misspelled Misspelled p q = refl
 
   -- what is parsed, or refused for a cause, is what parsing returns
-  pub result-judged : (r : Result FixedPoint ParseDecimalError) → MatchResult r (λ d. ParsesDecimal f t d) (λ e. IsDecimalCause f t e)
+  pub result-judged : (r : Result FixedPoint StrictError) → MatchResult r (λ d. ParsesDecimal f t d) (λ e. IsDecimalCause f t e)
       → DecimalResult f t r
   result-judged (Ok a) judged = record {
     decimal = λ d. (
@@ -105,11 +105,11 @@ no_refusal d scale scale_error.DigitsLost can cannot = can.kept cannot.1
 no_refusal d scale scale_error.OutOfRange can cannot = cannot.2 can.fits
 
 -- of what parsing returns of a text, parsing at a scale returns one thing at most
-module _ (f : FormatData) (t : List ℕ) (scale : ℕ) (r : Result FixedPoint ParseDecimalError) (parsed : DecimalResult f t r) where
+module _ (f : FormatData) (t : List ℕ) (scale : ℕ) (r : Result FixedPoint StrictError) (parsed : DecimalResult f t r) where
   one_canonical : (a b : FixedPoint) → ParsesDecimal f t a → ParsesDecimal f t b → a ≡ b
   one_canonical a b p q = let first = (parsed.decimal a).1 p in let second = (parsed.decimal b).1 q in cc
 
-  parses_or_not : (a : FixedPoint) (e : ParseDecimalError) → ParsesDecimal f t a → ¬ (IsDecimalCause f t e)
+  parses_or_not : (a : FixedPoint) (e : StrictError) → ParsesDecimal f t a → ¬ (IsDecimalCause f t e)
   parses_or_not a e p q = let first = (parsed.decimal a).1 p in let second = (parsed.refused e).1 q in cc
 
   parses_or_refused : (d : FixedPoint) (e : ParseAtScaleError) → ParsesAtScale f t scale d → ¬ (IsAtScaleCause f t scale e)

@@ -10,9 +10,9 @@ use Rattle.num_format_parsing.proofs.RefusalLemmas.{unread-place, utf8-or-not}
 use Rattle.num_format_decimal.specs.declared.decimal.TheConstants.{MAX_SCALE}
 use Rattle.num_format_decimal.specs.declared.parser.Fault.{Fault}
 use Rattle.num_format_decimal.specs.declared.parser.Fault.TheVariants.{TooLarge, NotCanonical}
-use Rattle.num_format_decimal.specs.declared.parsing.ParseDecimalError.{ParseDecimalError}
-use Rattle.num_format_decimal.specs.declared.parsing.ParseDecimalError.TheVariants.{NotUtf8, Unexpected, NoDigit, TooManyDecimals}
-use Rattle.num_format_decimal.specs.declared.parsing.ParseDecimalError.TheVariants.{Misspelled, OutOfRange}
+use Rattle.num_format_parsing.specs.declared.error.StrictError.{StrictError}
+use Rattle.num_format_parsing.specs.declared.error.StrictError.TheVariants.{NotUtf8, Unexpected, NoDigit, TooManyDecimals}
+use Rattle.num_format_parsing.specs.declared.error.StrictError.TheVariants.{Misspelled, OutOfRange}
 use Rattle.num_format_decimal.specs.FixedPoint.{FixedPoint}
 use Rattle.num_format_decimal.specs.Marks.{MarksDecimals}
 use Rattle.num_format_decimal.specs.Parsing.{IsDecimalCause, IsExpectedDecimal, IsCanonicalDecimal, after_mark, unexpected_in_decimal}
@@ -38,7 +38,7 @@ unexpected-place f t =
 
 module _ (f : FormatData) (t : List ℕ) (marks : MarksDecimals f) (none : (d : FixedPoint) → d.scale ≤ MAX_SCALE
     → ¬ (IsCanonicalDecimal f t d)) where
-  by_digits : IsExpectedDecimal f t → (ds : List ℕ) → text_digits t ≡ ds → (e : ParseDecimalError) × IsDecimalCause f t e
+  by_digits : IsExpectedDecimal f t → (ds : List ℕ) → text_digits t ≡ ds → (e : StrictError) × IsDecimalCause f t e
   by_digits expected [] empty = (NoDigit, (marks, record { expected = expected; fault = empty }))
   by_digits expected (d ∷ ds) some =
       let given : ¬ (text_digits t ≡ []) = λ empty. (let wrong = sym some ∙ empty in cc) in
@@ -47,15 +47,25 @@ module _ (f : FormatData) (t : List ℕ) (marks : MarksDecimals f) (none : (d : 
         | inr few ↦ (Misspelled, (marks, record { expected = expected; fault = (given, omega (arith, few)) }))
       ]
 
-  by_place : IsUtf8 t → (at : ℕ) → unexpected_in_decimal f t ≡ drop at t → (e : ParseDecimalError) × IsDecimalCause f t e
+  by_place : IsUtf8 t → (at : ℕ) → unexpected_in_decimal f t ≡ drop at t → (e : StrictError) × IsDecimalCause f t e
   by_place utf8 at rest =
       elim (cases_lt at (length t)) [
-        | inl inside ↦ (Unexpected at, (marks, record { is_not_canonical = record { utf8 = utf8; none = none }; inside = inside; rest =
-            rest }))
+        | inl inside ↦ (
+          Unexpected at,
+          (
+            marks,
+            record {
+              is_not_canonical = record { utf8 = utf8; none = none };
+              inside = inside;
+              rest =
+                  rest;
+            },
+          ),
+        )
         | inr outside ↦ by_digits (expected_of f t at utf8 none rest (omega (arith, outside))) (text_digits t) refl
       ]
 
-  not_canonical_cause : (e : ParseDecimalError) × IsDecimalCause f t e
+  not_canonical_cause : (e : StrictError) × IsDecimalCause f t e
   not_canonical_cause =
       elim (utf8-or-not t) [
         | inl utf8 ↦ (let place = unexpected-place f t in by_place utf8 place.0 place.1)
@@ -63,6 +73,6 @@ module _ (f : FormatData) (t : List ℕ) (marks : MarksDecimals f) (none : (d : 
       ]
 
 pub cause-given : (f : FormatData) (t : List ℕ) → MarksDecimals f → (fault : Fault)
-    → HasReading f t (λ scale. scale ≤ MAX_SCALE) (Err fault) → (e : ParseDecimalError) × IsDecimalCause f t e
+    → HasReading f t (λ scale. scale ≤ MAX_SCALE) (Err fault) → (e : StrictError) × IsDecimalCause f t e
 cause-given f t marks TooLarge large = (OutOfRange, (marks, large))
 cause-given f t marks NotCanonical none = not_canonical_cause f t marks none

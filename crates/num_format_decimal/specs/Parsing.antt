@@ -1,15 +1,15 @@
 -- What strict parsing of decimals returns, and when it refuses a text for which cause.
-use Rattle.std.specs.Prelude.{◌≡◌, ◌↔◌, ℕ, ◌<◌, ◌≤◌, List, [], length, drop, if◌then◌else◌, Result, Ok, Err, IsUtf8, codes}
+use Rattle.std.specs.Prelude.{◌≡◌, ◌↔◌, ℕ, ◌<◌, ◌≤◌, List, [], length, drop, if◌then◌else◌, Result, Ok, Err, IsUtf8}
 use Rattle.num_format_text.specs.Format.{FormatData}
 use Rattle.num_format_parsing.specs.Reading.{text_digits}
-use Rattle.num_format_parsing.specs.Strict.{begins, unexpected, ungrouped, unread}
+use Rattle.num_format_parsing.specs.Strict.{begins, strict_message_of, unexpected, ungrouped, unread}
 use Rattle.num_format_decimal.specs.declared.decimal.TheConstants.{MAX_SCALE}
 use Rattle.num_format_decimal.specs.declared.error.DecimalError.{DecimalError}
 use Rattle.num_format_decimal.specs.declared.parsing.ParseAtScaleError.{ParseAtScaleError}
 use Rattle.num_format_decimal.specs.declared.parsing.ParseAtScaleError.TheVariants.{Parse, Rescale}
-use Rattle.num_format_decimal.specs.declared.parsing.ParseDecimalError.{ParseDecimalError}
-use Rattle.num_format_decimal.specs.declared.parsing.ParseDecimalError.TheVariants.{AmbiguousFormat, NotUtf8, Unexpected, NoDigit}
-use Rattle.num_format_decimal.specs.declared.parsing.ParseDecimalError.TheVariants.{TooManyDecimals, Misspelled, OutOfRange}
+use Rattle.num_format_parsing.specs.declared.error.StrictError.{StrictError}
+use Rattle.num_format_parsing.specs.declared.error.StrictError.TheVariants.{AmbiguousFormat, NotUtf8, Unexpected, NoDigit}
+use Rattle.num_format_parsing.specs.declared.error.StrictError.TheVariants.{TooManyDecimals, Misspelled, OutOfRange}
 use Rattle.num_format_decimal.specs.declared.rounding.Rounding.TheVariants.{Exact}
 use Rattle.num_format_decimal.specs.FixedPoint.{FixedPoint}
 use Rattle.num_format_decimal.specs.Marks.{MarksDecimals}
@@ -68,7 +68,7 @@ pub record IsDecimalOutOfRange (f : FormatData) (t : List ℕ) : Type 0 where
   pub wrong : ¬ (HasUnits decimal)
 
 -- when a text is refused for a cause
-abbrev pub IsDecimalCause : FormatData → List ℕ → ParseDecimalError → Type 0
+abbrev pub IsDecimalCause : FormatData → List ℕ → StrictError → Type 0
 IsDecimalCause f t AmbiguousFormat = ¬ (MarksDecimals f)
 IsDecimalCause f t NotUtf8 = MarksDecimals f × ¬ (IsUtf8 t)
 IsDecimalCause f t (Unexpected at) = MarksDecimals f × DecimalStopsAt f t at
@@ -78,9 +78,9 @@ IsDecimalCause f t Misspelled = MarksDecimals f × IsExpectedBut f t (¬ (text_d
 IsDecimalCause f t OutOfRange = MarksDecimals f × IsDecimalOutOfRange f t
 
 -- what parsing returns of a text: the decimal for which it is canonical, or an error exactly if it is the cause
-pub record DecimalResult (f : FormatData) (t : List ℕ) (result : Result FixedPoint ParseDecimalError) : Type 0 where
+pub record DecimalResult (f : FormatData) (t : List ℕ) (result : Result FixedPoint StrictError) : Type 0 where
   pub decimal : (d : FixedPoint) → (result ≡ Ok d) ↔ ParsesDecimal f t d
-  pub refused : (e : ParseDecimalError) → (result ≡ Err e) ↔ IsDecimalCause f t e
+  pub refused : (e : StrictError) → (result ≡ Err e) ↔ IsDecimalCause f t e
 
 -- the text is canonical for a decimal, and d is the same number at the scale
 pub record ParsesAtScale (f : FormatData) (t : List ℕ) (scale : ℕ) (d : FixedPoint) : Type 0 where
@@ -105,17 +105,7 @@ pub record AtScaleResult (f : FormatData) (t : List ℕ) (scale : ℕ) (result :
   pub decimal : (d : FixedPoint) → (result ≡ Ok d) ↔ ParsesAtScale f t scale d
   pub refused : (e : ParseAtScaleError) → (result ≡ Err e) ↔ IsAtScaleCause f t scale e
 
--- the message of an error
-abbrev pub parse_message_of : ParseDecimalError → List ℕ
-parse_message_of AmbiguousFormat = codes "The format is ambiguous."
-parse_message_of NotUtf8 = codes "The bytes are not UTF-8."
-parse_message_of (Unexpected at) = codes "The text has an unexpected byte."
-parse_message_of NoDigit = codes "The text has no digit."
-parse_message_of TooManyDecimals = codes "The text has more than 38 decimals."
-parse_message_of Misspelled = codes "The text is not as the number is printed."
-parse_message_of OutOfRange = codes "The units are out of range."
-
 -- the message of an error at a scale: that of its cause
 abbrev pub at_scale_message_of : ParseAtScaleError → List ℕ
-at_scale_message_of (Parse e) = parse_message_of e
+at_scale_message_of (Parse e) = strict_message_of e
 at_scale_message_of (Rescale e) = message_of e

@@ -39,6 +39,6 @@ pub use error::DecimalError;
 pub use length::text_len;
 pub use marks::marks_decimals;
 pub use parser::DecimalParser;
-pub use parsing::{ParseAtScaleError, ParseDecimal, ParseDecimalError};
+pub use parsing::{ParseAtScaleError, ParseDecimal};
 pub use printing::FormattedDecimal;
 pub use rounding::Rounding;

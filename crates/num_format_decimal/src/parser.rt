@@ -11,17 +11,17 @@ ghost use Rattle.num_format_decimal.specs.Parsing.{after_mark, unexpected_in_dec
 ghost use Rattle.num_format_decimal.specs.Shapes.{HasAmount, HasReading, IsCut};
 ghost use Rattle.num_format_decimal.specs.Text.{mark_at};
 ghost use Rattle.num_format_decimal.specs.declared.decimal.TheConstants.{MAX_SCALE};
-ghost use Rattle.num_format_decimal.specs.declared.parsing.ParseDecimalError.TheVariants as cause;
+ghost use Rattle.num_format_parsing.specs.declared.error.StrictError.TheVariants as cause;
 
 use crate::decimal::{Decimal, MAX_SCALE};
-use crate::parsing::{ParseAtScaleError, ParseDecimalError};
+use crate::parsing::ParseAtScaleError;
 use crate::reading::{joined, trailing_digits, whole_number};
 use crate::rounding::Rounding;
-use num_format_parsing::StrictParser;
 use num_format_parsing::bytes::{begins_with, has_digit, is_utf8};
 use num_format_parsing::causes::expected_end;
 use num_format_parsing::reading::Reading;
 use num_format_parsing::symbols::is_plain;
+use num_format_parsing::{StrictError, StrictParser};
 use num_format_text::Format;
 use std::marker::Model;
 
@@ -65,7 +65,7 @@ impl<'a, F: Format> DecimalParser<'a, F> {
     ///
     /// # Errors
     ///
-    /// [`ParseDecimalError::AmbiguousFormat`] exactly if [`marks_decimals`](crate::marks_decimals) is false. No locale
+    /// [`StrictError::AmbiguousFormat`] exactly if [`marks_decimals`](crate::marks_decimals) is false. No locale
     /// is ambiguous.
     ///
     /// ```rust
@@ -73,7 +73,7 @@ impl<'a, F: Format> DecimalParser<'a, F> {
     /// DecimalParser::new(&format).err()    // Some(AmbiguousFormat): the separator is a comma too
     /// ```
     #[inline(always)]
-    pub fn new(format: &'a F) -> Result<DecimalParser<'a, F>, ParseDecimalError>
+    pub fn new(format: &'a F) -> Result<DecimalParser<'a, F>, StrictError>
         ensures { MatchResult result
             (λ parser. (parser ≡ F.answers format.now) × MarksDecimals (F.answers format.now))
             (λ e. (e ≡ cause.AmbiguousFormat) × ¬ (MarksDecimals (F.answers format.now))) }
@@ -84,7 +84,7 @@ impl<'a, F: Format> DecimalParser<'a, F> {
         format.decimal().into_str();
         match StrictParser::new(format) {
             Ok(numbers) => DecimalParser::with_numbers(format, numbers),
-            Err(_) => Err(ParseDecimalError::AmbiguousFormat),
+            Err(_) => Err(StrictError::AmbiguousFormat),
         }
     }
 
@@ -93,7 +93,7 @@ impl<'a, F: Format> DecimalParser<'a, F> {
     pub fn with_numbers(
         format: &'a F,
         numbers: StrictParser<'a, F>,
-    ) -> Result<DecimalParser<'a, F>, ParseDecimalError>
+    ) -> Result<DecimalParser<'a, F>, StrictError>
         requires same { numbers ≡ F.answers format.now }
         requires unambiguous { IsUnambiguous (F.answers format.now) }
         ensures { MatchResult result
@@ -105,7 +105,7 @@ impl<'a, F: Format> DecimalParser<'a, F> {
         format.separator().into_str();
         let mark = format.decimal().into_str();
         if !is_mark(mark, numbers.separator()) {
-            return Err(ParseDecimalError::AmbiguousFormat);
+            return Err(StrictError::AmbiguousFormat);
         }
         Ok(DecimalParser { numbers, mark })
     }
@@ -120,7 +120,7 @@ impl<'a, F: Format> DecimalParser<'a, F> {
     ///
     /// As [`from_strict_str`](Decimal::from_strict_str), but for `AmbiguousFormat`.
     #[inline(always)]
-    pub fn parse(&self, text: &str) -> Result<Decimal, ParseDecimalError>
+    pub fn parse(&self, text: &str) -> Result<Decimal, StrictError>
         ensures { DecimalResult self.now text.now result }
     {
         self.parse_any(text.as_bytes(), true)
@@ -136,7 +136,7 @@ impl<'a, F: Format> DecimalParser<'a, F> {
     ///
     /// As [`from_strict_bytes`](Decimal::from_strict_bytes), but for `AmbiguousFormat`.
     #[inline(always)]
-    pub fn parse_bytes(&self, bytes: &[u8]) -> Result<Decimal, ParseDecimalError>
+    pub fn parse_bytes(&self, bytes: &[u8]) -> Result<Decimal, StrictError>
         ensures { DecimalResult self.now bytes.now result }
     {
         self.parse_any(bytes, false)
@@ -152,7 +152,7 @@ impl<'a, F: Format> DecimalParser<'a, F> {
     /// ```
     #[inline(always)]
     pub fn decimal(&self, bytes: &[u8]) -> Option<Decimal>
-        ensures { MatchOption result ((e : ParseDecimalError) × DecimalResult self.now bytes.now (Err e))
+        ensures { MatchOption result ((e : StrictError) × DecimalResult self.now bytes.now (Err e))
             (λ d. DecimalResult self.now bytes.now (Ok d)) }
     {
         self.mark();
@@ -206,7 +206,7 @@ impl<'a, F: Format> DecimalParser<'a, F> {
     ///
     /// Where the caller knows that the bytes are UTF-8, that is not tested again.
     #[inline(always)]
-    fn parse_any(&self, text: &[u8], is_text: bool) -> Result<Decimal, ParseDecimalError>
+    fn parse_any(&self, text: &[u8], is_text: bool) -> Result<Decimal, StrictError>
         requires { IsTrue is_text → IsUtf8 text.now }
         ensures { DecimalResult self.now text.now result }
     {
@@ -214,7 +214,7 @@ impl<'a, F: Format> DecimalParser<'a, F> {
         match self.read(text) {
             Ok(decimal) => Ok(decimal),
             Err(fault) => match fault {
-                Fault::TooLarge => Err(ParseDecimalError::OutOfRange),
+                Fault::TooLarge => Err(StrictError::OutOfRange),
                 Fault::NotCanonical => Err(self.cause(text, is_text)),
             },
         }
@@ -343,28 +343,28 @@ impl<'a, F: Format> DecimalParser<'a, F> {
     /// registers.
     #[cold]
     #[inline(always)]
-    fn cause(&self, text: &[u8], is_text: bool) -> ParseDecimalError
+    fn cause(&self, text: &[u8], is_text: bool) -> StrictError
         requires utf8 { IsTrue is_text → IsUtf8 text.now }
         requires not_canonical { (d : FixedPoint) → d.scale ≤ MAX_SCALE → ¬ (IsCanonicalDecimal self.now text.now d) }
         ensures { IsDecimalCause self.now text.now result }
     {
         self.mark();
         if !is_utf8(text, is_text) {
-            return ParseDecimalError::NotUtf8;
+            return StrictError::NotUtf8;
         }
         let sign = self.numbers.sign(text);
         let whole = expected_end(text, sign.len, self.numbers.separator().as_bytes());
         let (at, decimals) = self.decimals_end(text, whole);
         if at < text.len() {
-            return ParseDecimalError::Unexpected { at };
+            return StrictError::Unexpected { at };
         }
         if !has_digit(text) {
-            return ParseDecimalError::NoDigit;
+            return StrictError::NoDigit;
         }
         if decimals > MAX_SCALE as usize {
-            return ParseDecimalError::TooManyDecimals;
+            return StrictError::TooManyDecimals;
         }
-        ParseDecimalError::Misspelled
+        StrictError::Misspelled
     }
 
     /// Returns the place after one decimal mark and digits, if the mark stands at the place `whole`, and how many bytes
@@ -413,8 +413,8 @@ impl Decimal {
     ///
     /// # Errors
     ///
-    /// A [`ParseDecimalError`], but not `NotUtf8`.
-    pub fn from_strict_str<F: Format>(text: &str, format: &F) -> Result<Decimal, ParseDecimalError>
+    /// A [`StrictError`], but not `NotUtf8`.
+    pub fn from_strict_str<F: Format>(text: &str, format: &F) -> Result<Decimal, StrictError>
         ensures { DecimalResult (F.answers format.now) text.now result }
     {
         DecimalParser::new(format)?.parse(text)
@@ -429,11 +429,8 @@ impl Decimal {
     ///
     /// # Errors
     ///
-    /// A [`ParseDecimalError`].
-    pub fn from_strict_bytes<F: Format>(
-        bytes: &[u8],
-        format: &F,
-    ) -> Result<Decimal, ParseDecimalError>
+    /// A [`StrictError`].
+    pub fn from_strict_bytes<F: Format>(bytes: &[u8], format: &F) -> Result<Decimal, StrictError>
         ensures { DecimalResult (F.answers format.now) bytes.now result }
     {
         DecimalParser::new(format)?.parse_bytes(bytes)

@@ -12,10 +12,8 @@ use Rattle.num_format_decimal.specs.Parsing.{AtScaleResult, DecimalResult}
 use Rattle.num_format_decimal.specs.declared.buffer.TheConstants.{MAX_DECIMAL_LEN}
 use Rattle.num_format_decimal.specs.declared.parsing.ParseAtScaleError.{ParseAtScaleError}
 use Rattle.num_format_decimal.specs.declared.parsing.ParseAtScaleError.TheVariants.{Parse, Rescale}
-use Rattle.num_format_decimal.specs.declared.parsing.ParseDecimalError.{ParseDecimalError}
-use Rattle.num_format_decimal.specs.declared.parsing.ParseDecimalError.TheVariants as decimal
 use Rattle.num_format_typed.specs.Rewriting.{bytes_within}
-use Rattle.num_format_typed.specs.Typed.{IsTypable, ParsesTyped, TypedAtScaleResult, TypedDecimalResult, placed, placed_decimal}
+use Rattle.num_format_typed.specs.Typed.{IsTypable, ParsesTyped, TypedAtScaleResult, TypedDecimalResult, placed}
 use Rattle.num_format_typed.specs.declared.typed.TypedError.{TypedError}
 use Rattle.num_format_typed.specs.declared.typed.TypedError.TheVariants as typed
 use Rattle.num_format_digits.specs.Digits.{HasOneSet, ascii_of, other_from, plain_char}
@@ -52,8 +50,8 @@ InDigits Taken ambiguous place parses z t result =
 abbrev pub ParsesInDigits : {X : Type 0} → Kind → (X → ℤ) → FormatData → ℕ → List ℕ → Result X (DigitsError StrictError) → Type 0
 ParsesInDigits k value f = InDigits (IsUnambiguous f) strict.AmbiguousFormat placed (ParsesStrictly k value f)
 
-abbrev pub DecimalInDigits : FormatData → ℕ → List ℕ → Result FixedPoint (DigitsError ParseDecimalError) → Type 0
-DecimalInDigits f = InDigits (MarksDecimals f) decimal.AmbiguousFormat placed_decimal (DecimalResult f)
+abbrev pub DecimalInDigits : FormatData → ℕ → List ℕ → Result FixedPoint (DigitsError StrictError) → Type 0
+DecimalInDigits f = InDigits (MarksDecimals f) strict.AmbiguousFormat placed (DecimalResult f)
 
 -- an error of typed parsing with another place, where one of strict parsing is given
 abbrev pub placed_typed : {E : Type 0} → ((ℕ → ℕ) → E → E) → (ℕ → ℕ) → TypedError E → TypedError E
@@ -65,22 +63,22 @@ abbrev pub TypedInDigits : {X : Type 0} → Kind → (X → ℤ) → FormatData 
     → Result X (DigitsError (TypedError StrictError)) → Type 0
 TypedInDigits k value f = InDigits (IsTypable f) (typed.Number strict.AmbiguousFormat) (placed_typed placed) (ParsesTyped k value f)
 
-abbrev pub TypedDecimalInDigits : FormatData → ℕ → List ℕ → Result FixedPoint (DigitsError (TypedError ParseDecimalError)) → Type 0
+abbrev pub TypedDecimalInDigits : FormatData → ℕ → List ℕ → Result FixedPoint (DigitsError (TypedError StrictError)) → Type 0
 TypedDecimalInDigits f =
-    InDigits (IsTypable f × MarksDecimals f) (typed.Number decimal.AmbiguousFormat) (placed_typed placed_decimal) (TypedDecimalResult f)
+    InDigits (IsTypable f × MarksDecimals f) (typed.Number strict.AmbiguousFormat) (placed_typed placed) (TypedDecimalResult f)
 
 -- an error of decimals of a scale with another place
 abbrev pub placed_at_scale : (ℕ → ℕ) → ParseAtScaleError → ParseAtScaleError
-placed_at_scale place (Parse e) = Parse (placed_decimal place e)
+placed_at_scale place (Parse e) = Parse (placed place e)
 placed_at_scale place (Rescale e) = Rescale e
 
 -- of a decimal at a scale, as it is printed
 abbrev pub AtScaleInDigits : (scale : ℕ) → FormatData → ℕ → List ℕ → Result FixedPoint (DigitsError ParseAtScaleError) → Type 0
-AtScaleInDigits scale f = InDigits (MarksDecimals f) (Parse decimal.AmbiguousFormat) placed_at_scale (λ t. AtScaleResult f t scale)
+AtScaleInDigits scale f = InDigits (MarksDecimals f) (Parse strict.AmbiguousFormat) placed_at_scale (λ t. AtScaleResult f t scale)
 
 -- of one as a person types it
 abbrev pub TypedAtScaleInDigits : (scale : ℕ) → FormatData → ℕ → List ℕ
     → Result FixedPoint (DigitsError (TypedError ParseAtScaleError)) → Type 0
 TypedAtScaleInDigits scale f =
-    InDigits (IsTypable f × MarksDecimals f) (typed.Number (Parse decimal.AmbiguousFormat)) (placed_typed placed_at_scale)
+    InDigits (IsTypable f × MarksDecimals f) (typed.Number (Parse strict.AmbiguousFormat)) (placed_typed placed_at_scale)
     (λ t. TypedAtScaleResult f t scale)

@@ -4,7 +4,7 @@ ghost use Rattle.std.specs.Prelude.{MatchResult, length, take};
 ghost use Rattle.std.specs.Str.{chars};
 ghost use Rattle.num_format_decimal.specs.declared.buffer.TheConstants.{MAX_DECIMAL_LEN};
 ghost use Rattle.num_format_decimal.specs.Marks.{MarksDecimals};
-ghost use Rattle.num_format_typed.specs.Typed.{IsTypable, placed, placed_decimal};
+ghost use Rattle.num_format_typed.specs.Typed.{IsTypable, placed};
 ghost use Rattle.num_format_digits.specs.Digits.{HasOneSet, HasZero, IsZero, ascii_of, in_digits, other_from};
 ghost use Rattle.num_format_digits.specs.Digits.{shown_byte};
 ghost use Rattle.num_format_digits.specs.Parsing.{AtScaleInDigits, DecimalInDigits, IsTextCause, ParsesInDigits};
@@ -13,9 +13,7 @@ ghost use Rattle.num_format_digits.specs.Parsing.{place_in, placed_at_scale};
 
 use crate::digits::Digits;
 use crate::plain::is_plain;
-use num_format_decimal::{
-    Decimal, DecimalParser, MAX_DECIMAL_LEN, ParseAtScaleError, ParseDecimalError,
-};
+use num_format_decimal::{Decimal, DecimalParser, MAX_DECIMAL_LEN, ParseAtScaleError};
 use num_format_parsing::{FromFormattedStr, StrictError, StrictParser};
 use num_format_text::Format;
 use num_format_typed::rewriting::{bytes_within, rewrite, split_first};
@@ -200,7 +198,7 @@ impl Digits {
         self,
         text: &str,
         format: &F,
-    ) -> Result<Decimal, DigitsError<ParseDecimalError>>
+    ) -> Result<Decimal, DigitsError<StrictError>>
         ensures { DecimalInDigits (F.answers format.now) self text.now result }
     {
         let parser = match DecimalParser::new(format) {
@@ -211,7 +209,7 @@ impl Digits {
         let ascii = self.to_ascii(text, &mut array)?;
         match parser.parse_bytes(ascii) {
             Ok(decimal) => Ok(decimal),
-            Err(error) => Err(DigitsError::Number(self.placed_decimal(text, error))),
+            Err(error) => Err(DigitsError::Number(self.placed(text, error))),
         }
     }
 
@@ -282,10 +280,10 @@ impl Digits {
         self,
         text: &str,
         format: &F,
-    ) -> Result<Decimal, DigitsError<TypedError<ParseDecimalError>>>
+    ) -> Result<Decimal, DigitsError<TypedError<StrictError>>>
         ensures { TypedDecimalInDigits (F.answers format.now) self text.now result }
     {
-        let ambiguous = DigitsError::Number(TypedError::Number(ParseDecimalError::AmbiguousFormat));
+        let ambiguous = DigitsError::Number(TypedError::Number(StrictError::AmbiguousFormat));
         let Ok(parser) = TypedParser::new(format) else {
             return Err(ambiguous);
         };
@@ -300,7 +298,7 @@ impl Digits {
         self,
         parser: &TypedParser<'a, F>,
         text: &str,
-    ) -> Result<Decimal, DigitsError<TypedError<ParseDecimalError>>>
+    ) -> Result<Decimal, DigitsError<TypedError<StrictError>>>
         requires { IsTypable parser.now × MarksDecimals parser.now }
         ensures { TypedDecimalInDigits parser.now self text.now result }
     {
@@ -310,7 +308,7 @@ impl Digits {
             Ok(number) => Ok(number),
             Err(TypedError::TooLong) => Err(DigitsError::Number(TypedError::TooLong)),
             Err(TypedError::Number(error)) => Err(DigitsError::Number(TypedError::Number(
-                self.placed_decimal(text, error),
+                self.placed(text, error),
             ))),
         }
     }
@@ -330,7 +328,7 @@ impl Digits {
     ) -> Result<Decimal, DigitsError<TypedError<ParseAtScaleError>>>
         ensures { TypedAtScaleInDigits scale (F.answers format.now) self text.now result }
     {
-        let cause = ParseAtScaleError::Parse(ParseDecimalError::AmbiguousFormat);
+        let cause = ParseAtScaleError::Parse(StrictError::AmbiguousFormat);
         let ambiguous = DigitsError::Number(TypedError::Number(cause));
         let Ok(parser) = TypedParser::new(format) else {
             return Err(ambiguous);
@@ -429,19 +427,6 @@ impl Digits {
         }
     }
 
-    /// Does the same for a decimal.
-    #[cold]
-    fn placed_decimal(self, text: &str, error: ParseDecimalError) -> ParseDecimalError
-        ensures { result ≡ placed_decimal (place_in self text.now) error }
-    {
-        match error {
-            ParseDecimalError::Unexpected { at } => ParseDecimalError::Unexpected {
-                at: bytes_within(at, text, &self),
-            },
-            _ => error,
-        }
-    }
-
     /// Does the same for a decimal at a scale.
     #[cold]
     fn placed_at_scale(self, text: &str, error: ParseAtScaleError) -> ParseAtScaleError
@@ -449,7 +434,7 @@ impl Digits {
     {
         match error {
             ParseAtScaleError::Parse(error) => {
-                ParseAtScaleError::Parse(self.placed_decimal(text, error))
+                ParseAtScaleError::Parse(self.placed(text, error))
             }
             ParseAtScaleError::Rescale(error) => ParseAtScaleError::Rescale(error),
         }

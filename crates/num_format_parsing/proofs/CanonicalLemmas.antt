@@ -155,7 +155,7 @@ body-told f t negative start z sign is_canonical =
       sign = same;
       of = told.of;
       body = body;
-      text_digits =
+      same_digits =
           ap byte_digits (body ∙ told.of.separated_same)
           ∙ digits_among-separated told.of.is_due (printed_separator f.grouping f.separator)
           (digits (unsigned_abs z)) sign.symbols.separator (digits-below_ten (unsigned_abs z));
@@ -239,7 +239,7 @@ canonical-once f t y z symbols first second = sym (number y first) ∙ number z 
         let told = body-told f t (is_negative_text f t) (sign_len f t) x (sign-has f t symbols) is_canonical in
         ap (λ b. signed_number b (number_in (drop (sign_len f t) t))) told.sign
         ∙ ap (λ n. signed_number (is_negative x) n) (ap (number_from_digits 10) told.same_digits
-            ∙ number_from_digits-digits (unsigned_abs x))
+        ∙ number_from_digits-digits (unsigned_abs x))
         ∙ signed_number-unsigned_abs x
 
 -- a text that does not begin with a digit other than zero is canonical for no number, unless it is one zero

@@ -16,7 +16,7 @@ use Rattle.num_format_parsing.specs.declared.reading.Reading.{Reading}
 use Rattle.num_format_parsing.specs.declared.reading.Reading.TheVariants.{Number, TooLarge, NotCanonical}
 use Rattle.num_format_parsing.specs.declared.error.StrictError.{StrictError}
 use Rattle.num_format_parsing.specs.declared.error.StrictError.TheVariants.{AmbiguousFormat, NotUtf8, Unexpected, NoDigit, Misspelled}
-use Rattle.num_format_parsing.specs.declared.error.StrictError.TheVariants.{OutOfRange}
+use Rattle.num_format_parsing.specs.declared.error.StrictError.TheVariants.{OutOfRange, TooManyDecimals}
 use Rattle.num_format_parsing.proofs.CanonicalLemmas.{text_digits-canonical, is_negative-pos, no_other-canonical, canonical-once}
 use Rattle.num_format_parsing.proofs.CanonicalLemmas.{unexpected-none}
 
@@ -32,10 +32,14 @@ canonical_cause : (k : Kind) (f : FormatData) (t : List ℕ) (z : ℤ) (e : Stri
 canonical_cause k f t z AmbiguousFormat s is_canonical p = absurd (p s.unambiguous)
 canonical_cause k f t z NotUtf8 s is_canonical p = absurd (p.1 ((no_other-canonical f t z s is_canonical).utf8))
 canonical_cause k f t z (Unexpected a) s is_canonical p =
-    absurd (stops-not f t a p.1 (record { utf8 = (no_other-canonical f t z s is_canonical).utf8; rest =
-        unexpected-none f t z s is_canonical }))
+    absurd (stops-not f t a p.1 (record {
+      utf8 = (no_other-canonical f t z s is_canonical).utf8;
+      rest =
+          unexpected-none f t z s is_canonical;
+    }))
 canonical_cause k f t z NoDigit s is_canonical p =
     absurd (omega (arith, digits_given (unsigned_abs z), ap length (sym (text_digits-canonical f t z s is_canonical) ∙ p.1.none)))
+canonical_cause k f t z TooManyDecimals s is_canonical p = absurd p
 canonical_cause k f t z Misspelled s is_canonical p = absurd (p.1.wrong z is_canonical)
 canonical_cause k f t z OutOfRange s is_canonical p =
     (refl, λ value. p.1.wrong (subst (IsValueOf k) (canonical-once f t z p.1.number s is_canonical p.1.canonical) value))
@@ -45,8 +49,10 @@ pub only_cause : (k : Kind) (f : FormatData) (t : List ℕ) (d e : StrictError) 
     → d ≡ e
 only_cause k f t AmbiguousFormat e s p q = absurd (p s.unambiguous)
 only_cause k f t OutOfRange e s p q = sym (canonical_cause k f t p.1.number e s p.1.canonical q).0
+only_cause k f t TooManyDecimals e s p q = absurd p
 only_cause k f t d AmbiguousFormat s p q = absurd (q s.unambiguous)
 only_cause k f t d OutOfRange s p q = (canonical_cause k f t q.1.number d s q.1.canonical p).0
+only_cause k f t d TooManyDecimals s p q = absurd q
 only_cause k f t NotUtf8 NotUtf8 s p q = refl
 only_cause k f t NotUtf8 (Unexpected b) s p q = absurd (p.1 q.1.utf8)
 only_cause k f t NotUtf8 e s p q = absurd (p.1 q.1.expected.utf8)
@@ -64,8 +70,11 @@ only_cause k f t Misspelled Misspelled s p q = refl
 pub parses-judged : {X : Type 0} (k : Kind) (value : X → ℤ) (f : FormatData) (t : List ℕ) (r : Result X StrictError) → HasPlainSymbols f
     → IsJudged k value f t r → ParsesStrictly k value f t r
 parses-judged k value f t (Ok n) s judged = record {
-  number = λ z. (λ is_canonical. canonical-once f t z (value n) s is_canonical judged.0, λ same. subst (IsCanonical f t)
-      (sym same) judged.0);
+  number = λ z. (
+    λ is_canonical. canonical-once f t z (value n) s is_canonical judged.0,
+    λ same. subst (IsCanonical f t)
+        (sym same) judged.0,
+  );
   accepted = (λ ok. (s.unambiguous, (value n, judged.0, judged.1)), λ given. refl);
   refused = λ e. (λ wrong. cc, λ cause. absurd ((canonical_cause k f t (value n) e s judged.0 cause).1 judged.1));
 }

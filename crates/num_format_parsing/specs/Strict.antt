@@ -12,7 +12,7 @@ use Rattle.num_format_int.specs.Text.{text_of}
 use Rattle.num_format_parsing.specs.Reading.{text_digits, is_negative_text, is_other_numeral}
 use Rattle.num_format_parsing.specs.declared.error.StrictError.{StrictError}
 use Rattle.num_format_parsing.specs.declared.error.StrictError.TheVariants.{AmbiguousFormat, NotUtf8, Unexpected, NoDigit, Misspelled}
-use Rattle.num_format_parsing.specs.declared.error.StrictError.TheVariants.{OutOfRange}
+use Rattle.num_format_parsing.specs.declared.error.StrictError.TheVariants.{OutOfRange, TooManyDecimals}
 
 -- a text without digits and other numeric characters
 pub record HasNoNumeral (text : List ℕ) : Type 0 where
@@ -90,6 +90,7 @@ IsCause k f t AmbiguousFormat = ¬ (IsUnambiguous f)
 IsCause k f t NotUtf8 = IsUnambiguous f × ¬ (IsUtf8 t)
 IsCause k f t (Unexpected at) = IsUnambiguous f × StopsAt f t at
 IsCause k f t NoDigit = IsUnambiguous f × LacksDigit f t
+IsCause k f t TooManyDecimals = ⊥
 IsCause k f t Misspelled = IsUnambiguous f × IsMisspelled f t
 IsCause k f t OutOfRange = IsUnambiguous f × IsOutOfRange k f t
 
@@ -107,5 +108,6 @@ strict_message_of AmbiguousFormat = codes "The format is ambiguous."
 strict_message_of NotUtf8 = codes "The bytes are not UTF-8."
 strict_message_of (Unexpected at) = codes "The text has an unexpected byte."
 strict_message_of NoDigit = codes "The text has no digit."
+strict_message_of TooManyDecimals = codes "The text has more than 38 decimals."
 strict_message_of Misspelled = codes "The text is not as the number is printed."
 strict_message_of OutOfRange = codes "The number is no value of the type."

@@ -31,28 +31,32 @@ impl fmt::Display for ParseBytesError {
 
 impl std::error::Error for ParseBytesError {}
 
-/// Why a text was refused by strict parsing. The causes are tried in this order.
+/// Why a text was refused by strict parsing, as a number or as a decimal. The causes are tried in this order.
 ///
 /// It takes 16 bytes, and does not keep the text.
 #[derive(Clone, Copy, Debug, PartialEq, Eq, Hash)]
 pub enum StrictError {
     /// The format is ambiguous, so no text is parsed under it: its minus sign is empty, or that or a separator that its
-    /// grouping prints has a digit or another numeric character. No locale is ambiguous.
+    /// grouping prints has a digit or another numeric character; for decimals, if `marks_decimals` of
+    /// `num_format_decimal` is false. No locale is ambiguous.
     AmbiguousFormat,
     /// The bytes are not UTF-8.
     NotUtf8,
-    /// The first `at` bytes are the minus sign, if the text begins with it, and then digits and whole
-    /// separators. The next byte belongs to neither. A separator counts only if the grouping prints one.
+    /// The first `at` bytes are the minus sign, if the text begins with it, then digits and whole separators, and, in a
+    /// decimal, one decimal mark with digits, if it is there. The next byte belongs to none of these. A separator
+    /// counts only if the grouping prints one.
     Unexpected {
         /// The number of bytes before the unexpected one.
         at: usize,
     },
     /// No byte is unexpected, and the text has no digit.
     NoDigit,
-    /// No byte is unexpected, and the text is that of no number, grouped or not:
-    /// under `en` these are `01`, `1,23`, `1234,567` and `-0`.
+    /// No byte of a decimal is unexpected, and more than 38 digits follow its mark. No whole number has this cause.
+    TooManyDecimals,
+    /// No byte is unexpected, and the text is not as the number is printed, grouped or not: under `en` these are `01`,
+    /// `1,23`, `1234,567`, `-0` and, as decimals, `.5`, `1.` and `-0.00`.
     Misspelled,
-    /// The text is canonical for a number that is no value of the type.
+    /// The text is canonical for a number that is no value of the type, or for a decimal whose units are no `i128`.
     OutOfRange,
 }
 
@@ -67,6 +71,7 @@ impl fmt::Display for StrictError {
             StrictError::NotUtf8 => "The bytes are not UTF-8.",
             StrictError::Unexpected { .. } => "The text has an unexpected byte.",
             StrictError::NoDigit => "The text has no digit.",
+            StrictError::TooManyDecimals => "The text has more than 38 decimals.",
             StrictError::Misspelled => "The text is not as the number is printed.",
             StrictError::OutOfRange => "The number is no value of the type.",
         })

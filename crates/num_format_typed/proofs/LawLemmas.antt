@@ -9,11 +9,11 @@ use Rattle.num_format_decimal.specs.Marks.{MarksDecimals}
 use Rattle.num_format_decimal.specs.Parsing.{DecimalResult, ParsesDecimal}
 use Rattle.num_format_decimal.specs.declared.parsing.ParseAtScaleError.{ParseAtScaleError}
 use Rattle.num_format_decimal.specs.declared.parsing.ParseAtScaleError.TheVariants as at_scale
-use Rattle.num_format_decimal.specs.declared.parsing.ParseDecimalError.{ParseDecimalError}
-use Rattle.num_format_decimal.specs.declared.parsing.ParseDecimalError.TheVariants as decimal
+use Rattle.num_format_parsing.specs.declared.error.StrictError.{StrictError}
+use Rattle.num_format_parsing.specs.declared.error.StrictError.TheVariants as strict
 use Rattle.num_format_decimal.proofs.CauseLemmas.{scaled-judged}
 use Rattle.num_format_typed.specs.Laws.{PrintedAtScaleLaw, PrintedDecimalLaw}
-use Rattle.num_format_typed.specs.Typed.{IsTypable, RescaleResult, TypedDecimalResult, TypedResult, at_any_scale, placed_decimal}
+use Rattle.num_format_typed.specs.Typed.{IsTypable, RescaleResult, TypedDecimalResult, TypedResult, at_any_scale, placed}
 use Rattle.num_format_typed.specs.Typed.{typed_text}
 use Rattle.num_format_typed.specs.declared.typed.TypedError.{TypedError}
 use Rattle.num_format_typed.specs.declared.typed.TypedError.TheVariants.{TooLong, Number}
@@ -71,12 +71,12 @@ module _ {X E Y : Type 0} (value : X → Y) (parses : List ℕ → Result X E �
       both (inr p) (inr q) = strict.same (typed_text f t) x y p.2 q.2
 
 -- a printed decimal, and one at a scale
-accepted-decimal : (f : FormatData) (t : List ℕ) (d : FixedPoint) (result : Result FixedPoint (TypedError ParseDecimalError)) → IsTypable f
+accepted-decimal : (f : FormatData) (t : List ℕ) (d : FixedPoint) (result : Result FixedPoint (TypedError StrictError)) → IsTypable f
     → ParsesDecimal f t d → TypedDecimalResult f t result →
     (y : FixedPoint) × (result ≡ Ok y) × DecimalResult f t (Ok y)
 accepted-decimal f t d result typable parses returned =
     printed-first (λ (d : FixedPoint). d) (DecimalResult f) (strict-decimal f)
-    (IsTypable f × MarksDecimals f) f t decimal.AmbiguousFormat decimal.NotUtf8 placed_decimal result (typable, parses.unambiguous)
+    (IsTypable f × MarksDecimals f) f t strict.AmbiguousFormat strict.NotUtf8 placed result (typable, parses.unambiguous)
     (λ e refused. let wrong = (refused.decimal d).1 parses in cc) returned
 
 pub printed-decimal : PrintedDecimalLaw
@@ -89,7 +89,7 @@ printed-decimal f t d result typable parses returned =
 pub printed-at_scale : PrintedAtScaleLaw
 printed-at_scale f t scale d result typable parses returned =
     let first = accepted-decimal f t parses.canonical returned.parsed typable parses.parses returned.decimal in
-    rescaled-only result first.0 first.2 (subst (λ (r : Result FixedPoint (TypedError ParseDecimalError)). MatchResult r
+    rescaled-only result first.0 first.2 (subst (λ (r : Result FixedPoint (TypedError StrictError)). MatchResult r
     (λ x. RescaleResult x scale result) (λ e. result ≡ Err (at_any_scale e))) first.1 returned.at_scale)
   where
     rescaled-only : (result : Result FixedPoint (TypedError ParseAtScaleError)) (y : FixedPoint) → DecimalResult f t (Ok y)

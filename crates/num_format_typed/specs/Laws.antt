@@ -7,7 +7,6 @@ use Rattle.num_format_parsing.specs.declared.error.StrictError.{StrictError}
 use Rattle.num_format_decimal.specs.FixedPoint.{FixedPoint}
 use Rattle.num_format_decimal.specs.Parsing.{ParsesAtScale, ParsesDecimal}
 use Rattle.num_format_decimal.specs.declared.parsing.ParseAtScaleError.{ParseAtScaleError}
-use Rattle.num_format_decimal.specs.declared.parsing.ParseDecimalError.{ParseDecimalError}
 use Rattle.num_format_typed.specs.Typed.{IsTypable, ParsesTyped, TypedAtScaleResult, TypedDecimalResult}
 use Rattle.num_format_typed.specs.declared.typed.TypedError.{TypedError}
 
@@ -18,7 +17,7 @@ PrintedLaw {X} k value = (f : FormatData) (t : List ℕ) (x : X) (result : Resul
 
 -- and for the same decimal, at a scale too
 abbrev pub PrintedDecimalLaw : Type 0
-PrintedDecimalLaw = (f : FormatData) (t : List ℕ) (d : FixedPoint) (result : Result FixedPoint (TypedError ParseDecimalError)) →
+PrintedDecimalLaw = (f : FormatData) (t : List ℕ) (d : FixedPoint) (result : Result FixedPoint (TypedError StrictError)) →
     IsTypable f → ParsesDecimal f t d → TypedDecimalResult f t result → result ≡ Ok d
 
 abbrev pub PrintedAtScaleLaw : Type 0

@@ -20,8 +20,6 @@ use Rattle.num_format_decimal.specs.declared.rounding.Rounding.TheVariants.{Exac
 use Rattle.num_format_decimal.specs.declared.buffer.TheConstants.{MAX_DECIMAL_LEN}
 use Rattle.num_format_decimal.specs.declared.parsing.ParseAtScaleError.{ParseAtScaleError}
 use Rattle.num_format_decimal.specs.declared.parsing.ParseAtScaleError.TheVariants as at_scale
-use Rattle.num_format_decimal.specs.declared.parsing.ParseDecimalError.{ParseDecimalError}
-use Rattle.num_format_decimal.specs.declared.parsing.ParseDecimalError.TheVariants as decimal
 use Rattle.num_format_typed.specs.Classes.{class_of, is_of}
 use Rattle.num_format_typed.specs.Rewriting.{bytes_within, images, without_ends, without_front}
 use Rattle.num_format_typed.specs.declared.classes.Class.{Class}
@@ -155,10 +153,6 @@ abbrev pub placed : (ℕ → ℕ) → StrictError → StrictError
 placed place (strict.Unexpected at) = strict.Unexpected (place at)
 placed place e = e
 
-abbrev pub placed_decimal : (ℕ → ℕ) → ParseDecimalError → ParseDecimalError
-placed_decimal place (decimal.Unexpected at) = decimal.Unexpected (place at)
-placed_decimal place e = e
-
 -- what strict parsing returned, with the places of the given text
 abbrev pub map_error : {X E : Type 0} → (E → E) → Result X E → Result X (TypedError E)
 map_error place (Ok x) = Ok x
@@ -183,9 +177,9 @@ pub data TypedResult {X E : Type 0} (Taken : Type 0) (f : FormatData) (t : List 
 abbrev pub ParsesTyped : {X : Type 0} → Kind → (X → ℤ) → FormatData → List ℕ → Result X (TypedError StrictError) → Type 0
 ParsesTyped k value f t = TypedResult (IsTypable f) f t strict.AmbiguousFormat strict.NotUtf8 placed (ParsesStrictly k value f)
 
-abbrev pub TypedDecimalResult : FormatData → List ℕ → Result FixedPoint (TypedError ParseDecimalError) → Type 0
+abbrev pub TypedDecimalResult : FormatData → List ℕ → Result FixedPoint (TypedError StrictError) → Type 0
 TypedDecimalResult f t =
-    TypedResult (IsTypable f × MarksDecimals f) f t decimal.AmbiguousFormat decimal.NotUtf8 placed_decimal (DecimalResult f)
+    TypedResult (IsTypable f × MarksDecimals f) f t strict.AmbiguousFormat strict.NotUtf8 placed (DecimalResult f)
 
 -- why a decimal has no such scale
 abbrev pub IsScaleCause : FixedPoint → (scale : ℕ) → TypedError ParseAtScaleError → Type 0
@@ -197,14 +191,14 @@ abbrev pub RescaleResult : FixedPoint → (scale : ℕ) → Result FixedPoint (T
 RescaleResult d scale result = MatchResult result (λ x. CanRescale Exact d scale × (x ≡ rescaled Exact d scale)) (IsScaleCause d scale)
 
 -- why a text is refused as a decimal of any scale
-abbrev pub at_any_scale : TypedError ParseDecimalError → TypedError ParseAtScaleError
+abbrev pub at_any_scale : TypedError StrictError → TypedError ParseAtScaleError
 at_any_scale TooLong = TooLong
 at_any_scale (Number e) = Number (at_scale.Parse e)
 
 -- what parsing returns of a text as a decimal of a scale: the decimal, at the scale
 pub record TypedAtScaleResult (f : FormatData) (t : List ℕ) (scale : ℕ)
     (result : Result FixedPoint (TypedError ParseAtScaleError)) : Type 0 where
-  pub parsed : Result FixedPoint (TypedError ParseDecimalError)
+  pub parsed : Result FixedPoint (TypedError StrictError)
   pub decimal : TypedDecimalResult f t parsed
   pub at_scale : MatchResult parsed (λ d. RescaleResult d scale result) (λ e. result ≡ Err (at_any_scale e))
 

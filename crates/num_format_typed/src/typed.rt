@@ -17,15 +17,13 @@ ghost use Rattle.num_format_typed.specs.Typed.{HasUsualSymbols, IsTypable, Parse
 ghost use Rattle.num_format_typed.specs.Typed.{TypedAtScaleResult, TypedDecimalResult, ascii_separators, at_any_scale};
 ghost use Rattle.num_format_typed.specs.Typed.{begins_with, body_of, core_of, has_class, has_minus, has_shared};
 ghost use Rattle.num_format_typed.specs.Typed.{is_nonzero_digit, is_own, is_shared_in, own_char, place_in, placed};
-ghost use Rattle.num_format_typed.specs.Typed.{placed_decimal, put, separator_of, sign_of, trimmed, typed_message_of};
+ghost use Rattle.num_format_typed.specs.Typed.{placed, put, separator_of, sign_of, trimmed, typed_message_of};
 ghost use Rattle.num_format_typed.specs.Typed.{typed_text, unsigned, usual_marks, usual_separators, usual_signs};
 ghost use Rattle.num_format_typed.specs.Typed.{usual_spaces};
 
 use crate::classes::Class;
 use crate::rewriting::{Image, bytes_within, rewrite, split_first, without_end, without_front};
-use num_format_decimal::{
-    Decimal, DecimalParser, MAX_DECIMAL_LEN, ParseAtScaleError, ParseDecimalError, Rounding,
-};
+use num_format_decimal::{Decimal, DecimalParser, MAX_DECIMAL_LEN, ParseAtScaleError, Rounding};
 use num_format_parsing::bytes::{is_prefix, is_utf8};
 use num_format_parsing::{FromFormattedStr, StrictError, StrictParser};
 use num_format_text::Format;
@@ -353,7 +351,7 @@ impl<'a, F: Format> Rewriter<'a, F> {
         &self,
         decimals: &DecimalParser<'a, F>,
         bytes: &[u8],
-    ) -> Result<Decimal, TypedError<ParseDecimalError>>
+    ) -> Result<Decimal, TypedError<StrictError>>
         requires same { decimals.now ≡ self.now }
         requires typable { IsTypable self.now }
         requires marks { MarksDecimals self.now }
@@ -363,7 +361,7 @@ impl<'a, F: Format> Rewriter<'a, F> {
             Some(decimal) => Ok(decimal),
             None => match text_of(bytes) {
                 Some(text) => Rewriter::parse_refused_decimal(self.format(), text),
-                None => Err(TypedError::Number(ParseDecimalError::NotUtf8)),
+                None => Err(TypedError::Number(StrictError::NotUtf8)),
             },
         }
     }
@@ -374,11 +372,11 @@ impl<'a, F: Format> Rewriter<'a, F> {
         &self,
         decimals: &DecimalParser<'a, F>,
         text: &str,
-    ) -> Result<Decimal, TypedError<ParseDecimalError>>
+    ) -> Result<Decimal, TypedError<StrictError>>
         requires same { decimals.now ≡ self.now }
         requires typable { IsTypable self.now }
         requires marks { MarksDecimals self.now }
-        requires refused { (e : ParseDecimalError) × DecimalResult self.now text.now (Err e) }
+        requires refused { (e : StrictError) × DecimalResult self.now text.now (Err e) }
         ensures { TypedDecimalResult self.now text.now result }
     {
         let mut array = [0; MAX_DECIMAL_LEN];
@@ -387,25 +385,22 @@ impl<'a, F: Format> Rewriter<'a, F> {
         };
         match decimals.parse_bytes(typed) {
             Ok(decimal) => Ok(decimal),
-            Err(error) => Err(TypedError::Number(self.placed_decimal(text, error))),
+            Err(error) => Err(TypedError::Number(self.placed(text, error))),
         }
     }
 
     /// Does the same under a format, as [`parse_refused`](Rewriter::parse_refused) does for a number.
     #[cold]
     #[inline(never)]
-    fn parse_refused_decimal(
-        format: &'a F,
-        text: &str,
-    ) -> Result<Decimal, TypedError<ParseDecimalError>>
+    fn parse_refused_decimal(format: &'a F, text: &str) -> Result<Decimal, TypedError<StrictError>>
         requires typable { IsTypable (F.answers format.now) }
-        requires refused { (e : ParseDecimalError) × DecimalResult (F.answers format.now) text.now (Err e) }
+        requires refused { (e : StrictError) × DecimalResult (F.answers format.now) text.now (Err e) }
         ensures { TypedDecimalResult (F.answers format.now) text.now result }
     {
         let rewriter = Rewriter::typable(format);
         match rewriter.decimals() {
             Some(decimals) => rewriter.parse_rewritten_decimal(&decimals, text),
-            None => Err(TypedError::Number(ParseDecimalError::AmbiguousFormat)),
+            None => Err(TypedError::Number(StrictError::AmbiguousFormat)),
         }
     }
 
@@ -510,19 +505,6 @@ impl<'a, F: Format> Rewriter<'a, F> {
     {
         match error {
             StrictError::Unexpected { at } => StrictError::Unexpected {
-                at: self.place(text, at),
-            },
-            _ => error,
-        }
-    }
-
-    /// Does the same for a decimal.
-    #[cold]
-    fn placed_decimal(&self, text: &str, error: ParseDecimalError) -> ParseDecimalError
-        ensures { result ≡ placed_decimal (place_in self.now text.now) error }
-    {
-        match error {
-            ParseDecimalError::Unexpected { at } => ParseDecimalError::Unexpected {
                 at: self.place(text, at),
             },
             _ => error,
@@ -639,7 +621,7 @@ impl<'a, F: Format> TypedParser<'a, F> {
     /// As [`parse`](TypedParser::parse), but with the causes of decimals, and `AmbiguousFormat` where `marks_decimals`
     /// is false.
     #[inline]
-    pub fn parse_decimal(&self, text: &str) -> Result<Decimal, TypedError<ParseDecimalError>>
+    pub fn parse_decimal(&self, text: &str) -> Result<Decimal, TypedError<StrictError>>
         ensures { TypedDecimalResult self.now text.now result }
     {
         self.parse_decimal_bytes(text.as_bytes())
@@ -651,15 +633,12 @@ impl<'a, F: Format> TypedParser<'a, F> {
     ///
     /// As [`parse_decimal`](TypedParser::parse_decimal), and `NotUtf8`.
     #[inline]
-    pub fn parse_decimal_bytes(
-        &self,
-        bytes: &[u8],
-    ) -> Result<Decimal, TypedError<ParseDecimalError>>
+    pub fn parse_decimal_bytes(&self, bytes: &[u8]) -> Result<Decimal, TypedError<StrictError>>
         ensures { TypedDecimalResult self.now bytes.now result }
     {
         match self.decimals() {
             Some(decimals) => self.rewriter.parse_decimal(decimals, bytes),
-            None => Err(TypedError::Number(ParseDecimalError::AmbiguousFormat)),
+            None => Err(TypedError::Number(StrictError::AmbiguousFormat)),
         }
     }
 
@@ -733,7 +712,7 @@ fn at_scale(decimal: Decimal, scale: u8) -> Result<Decimal, TypedError<ParseAtSc
 }
 
 /// Returns why a text is refused at any scale.
-fn at_any_scale(error: TypedError<ParseDecimalError>) -> TypedError<ParseAtScaleError>
+fn at_any_scale(error: TypedError<StrictError>) -> TypedError<ParseAtScaleError>
     ensures { result ≡ at_any_scale error }
 {
     match error {
@@ -840,7 +819,7 @@ pub fn parse_typed_bytes<N: FromFormattedStr, F: Format>(
 pub fn parse_typed_decimal<F: Format>(
     text: &str,
     format: &F,
-) -> Result<Decimal, TypedError<ParseDecimalError>>
+) -> Result<Decimal, TypedError<StrictError>>
     ensures { TypedDecimalResult (F.answers format.now) text.now result }
 {
     parse_typed_decimal_bytes(text.as_bytes(), format)
@@ -854,14 +833,14 @@ pub fn parse_typed_decimal<F: Format>(
 pub fn parse_typed_decimal_bytes<F: Format>(
     bytes: &[u8],
     format: &F,
-) -> Result<Decimal, TypedError<ParseDecimalError>>
+) -> Result<Decimal, TypedError<StrictError>>
     ensures { TypedDecimalResult (F.answers format.now) bytes.now result }
 {
     let Ok(rewriter) = Rewriter::new(format) else {
-        return Err(TypedError::Number(ParseDecimalError::AmbiguousFormat));
+        return Err(TypedError::Number(StrictError::AmbiguousFormat));
     };
     let Some(decimals) = rewriter.decimals() else {
-        return Err(TypedError::Number(ParseDecimalError::AmbiguousFormat));
+        return Err(TypedError::Number(StrictError::AmbiguousFormat));
     };
     rewriter.parse_decimal(&decimals, bytes)
 }

@@ -8,7 +8,7 @@ use num_format::json::JsonFault;
 use num_format::parsing::{ParseBytesError, StrictError};
 use num_format::utils::{InfinityStr, SeparatorStr};
 use num_format::{Buffer, Error, Locale};
-use num_format_decimal::{DecimalError, ParseAtScaleError, ParseDecimalError};
+use num_format_decimal::{DecimalError, ParseAtScaleError};
 use num_format_digits::{DigitText, Digits};
 use num_format_typed::TypedError;
 use std::alloc::Global;
@@ -119,14 +119,7 @@ fn errors_of_parsing(rt: HostRuntime) -> Result<(), Fail> {
         (ParseBytesError::NotUtf8, "The bytes are not UTF-8."),
         (ParseBytesError::NotANumber, "The text is no number of the type."),
     ])?;
-    assert_all(&rt, rt.alloc(), &[
-        (StrictError::AmbiguousFormat, "The format is ambiguous."),
-        (StrictError::NotUtf8, "The bytes are not UTF-8."),
-        (StrictError::Unexpected { at: usize::MAX }, "The text has an unexpected byte."),
-        (StrictError::NoDigit, "The text has no digit."),
-        (StrictError::Misspelled, "The text is not as the number is printed."),
-        (StrictError::OutOfRange, "The number is no value of the type."),
-    ])
+    assert_all(&rt, rt.alloc(), &OF_STRICT_PARSING)
 }
 
 #[rattlefmt::skip]
@@ -137,14 +130,14 @@ const OF_DECIMALS: [(DecimalError, &str); 3] = [
 ];
 
 #[rattlefmt::skip]
-const OF_PARSING_DECIMALS: [(ParseDecimalError, &str); 7] = [
-    (ParseDecimalError::AmbiguousFormat, "The format is ambiguous."),
-    (ParseDecimalError::NotUtf8, "The bytes are not UTF-8."),
-    (ParseDecimalError::Unexpected { at: usize::MAX }, "The text has an unexpected byte."),
-    (ParseDecimalError::NoDigit, "The text has no digit."),
-    (ParseDecimalError::TooManyDecimals, "The text has more than 38 decimals."),
-    (ParseDecimalError::Misspelled, "The text is not as the number is printed."),
-    (ParseDecimalError::OutOfRange, "The units are out of range."),
+const OF_STRICT_PARSING: [(StrictError, &str); 7] = [
+    (StrictError::AmbiguousFormat, "The format is ambiguous."),
+    (StrictError::NotUtf8, "The bytes are not UTF-8."),
+    (StrictError::Unexpected { at: usize::MAX }, "The text has an unexpected byte."),
+    (StrictError::NoDigit, "The text has no digit."),
+    (StrictError::TooManyDecimals, "The text has more than 38 decimals."),
+    (StrictError::Misspelled, "The text is not as the number is printed."),
+    (StrictError::OutOfRange, "The number is no value of the type."),
 ];
 
 /// An error of parsing at a scale shows that of which it is made.
@@ -164,8 +157,7 @@ fn errors_of_decimals(rt: HostRuntime) -> Result<(), Fail> {
 
 #[test]
 fn errors_of_parsing_decimals(rt: HostRuntime) -> Result<(), Fail> {
-    assert_all(&rt, rt.alloc(), &OF_PARSING_DECIMALS)?;
-    for (error, message) in &OF_PARSING_DECIMALS {
+    for (error, message) in &OF_STRICT_PARSING {
         assert_displayed(&rt, rt.alloc(), &ParseAtScaleError::Parse(*error), message)?;
     }
     Ok(())
@@ -174,9 +166,9 @@ fn errors_of_parsing_decimals(rt: HostRuntime) -> Result<(), Fail> {
 /// An error of a typed text shows that of which it is made.
 #[test]
 fn errors_of_typed_texts(rt: HostRuntime) -> Result<(), Fail> {
-    let too_long: TypedError<ParseDecimalError> = TypedError::TooLong;
+    let too_long: TypedError<StrictError> = TypedError::TooLong;
     assert_displayed(&rt, rt.alloc(), &too_long, "The text is too long.")?;
-    for (error, message) in &OF_PARSING_DECIMALS {
+    for (error, message) in &OF_STRICT_PARSING {
         assert_displayed(&rt, rt.alloc(), &TypedError::Number(*error), message)?;
     }
     Ok(())

@@ -1,8 +1,9 @@
 //! The crates `uses_money` and `uses_settings`: amounts displayed and parsed, and formats of settings.
 
 use crate::asserting::assert_equal;
+use num_format::parsing::StrictError;
 use num_format::{Buffer, Locale};
-use num_format_decimal::{DecimalError, ParseAtScaleError, ParseDecimalError};
+use num_format_decimal::{DecimalError, ParseAtScaleError};
 use std::alloc::Global;
 use std::process::Abort;
 use std::test::Fail;
@@ -51,8 +52,8 @@ type Refused = (&'static str, Currency, ParseAtScaleError);
 const REFUSED: [Refused; 4] = [
     ("12.345", Currency::Usd, ParseAtScaleError::Rescale(DecimalError::DigitsLost)),
     ("12.5", Currency::Jpy, ParseAtScaleError::Rescale(DecimalError::DigitsLost)),
-    ("12.50 USD", Currency::Usd, ParseAtScaleError::Parse(ParseDecimalError::Unexpected { at: 5 })),
-    ("1,23.40", Currency::Usd, ParseAtScaleError::Parse(ParseDecimalError::Misspelled)),
+    ("12.50 USD", Currency::Usd, ParseAtScaleError::Parse(StrictError::Unexpected { at: 5 })),
+    ("1,23.40", Currency::Usd, ParseAtScaleError::Parse(StrictError::Misspelled)),
 ];
 
 /// Asserts why a text is refused as an amount.

@@ -10,7 +10,7 @@ use Rattle.num_format_decimal.specs.Parsing.{IsDecimalCause, ParsesDecimal, IsCa
 use Rattle.num_format_decimal.specs.Parsing.{unexpected_in_decimal}
 use Rattle.num_format_decimal.specs.Parsing.{with_separators, without_separators}
 use Rattle.num_format_decimal.specs.Marks.{IsPlainFormat, MarksDecimals}
-use Rattle.num_format_decimal.specs.declared.parsing.ParseDecimalError.{ParseDecimalError}
+use Rattle.num_format_parsing.specs.declared.error.StrictError.{StrictError}
 use Rattle.num_format_decimal.specs.Text.{decimal_text}
 use Rattle.std.proofs.lemmas.Bool.{both_ways, cases_Bool, false_from_ne_true, not-true, not_from_false}
 use Rattle.num_format.specs.Reading.{denoted, text_digits}
@@ -30,8 +30,8 @@ use Rattle.num_format.specs.Strict.{ungrouped}
 use Rattle.num_format.specs.Grouped.{printed_separator}
 use Rattle.num_format.specs.Strict.{HasNoNumeral}
 use Rattle.num_format_decimal.specs.declared.decimal.TheConstants.{MAX_SCALE}
-use Rattle.num_format_decimal.specs.declared.parsing.ParseDecimalError.TheVariants.{AmbiguousFormat, Misspelled, NoDigit, NotUtf8}
-use Rattle.num_format_decimal.specs.declared.parsing.ParseDecimalError.TheVariants.{OutOfRange, TooManyDecimals, Unexpected}
+use Rattle.num_format_parsing.specs.declared.error.StrictError.TheVariants.{AmbiguousFormat, Misspelled, NoDigit, NotUtf8}
+use Rattle.num_format_parsing.specs.declared.error.StrictError.TheVariants.{OutOfRange, TooManyDecimals, Unexpected}
 use Rattle.num_format_decimal.proofs.MarkLemmas.{denoted-decimal, plain-from_marks, canonical_once, tells-canonical_decimal}
 use Rattle.num_format_decimal.proofs.ParserLemmas.{mark_from, marks_from}
 
@@ -175,7 +175,7 @@ module _ (f : FormatData) (utf8 : HasUtf8Texts f) where
     pub why-parsed : (d : FixedPoint) → ParsesDecimal f t d → why_refused f t ≡ why.Unknown
     why-parsed d parsed = why-canonical parsed.unambiguous d parsed.canonical parsed.bound
 
-    pub why-is : (e : ParseDecimalError) → IsDecimalCause f t e → why_refused f t ≡ why_in e
+    pub why-is : (e : StrictError) → IsDecimalCause f t e → why_refused f t ≡ why_in e
     unfolding why_refused
     why-is AmbiguousFormat cause = rw (unmarked cause) refl
     why-is NotUtf8 cause = rw (marks-Decides.1 cause.0, false_from_ne_true (is_utf8 t) (λ yes. cause.1 (IsUtf8-from_is_utf8 t yes))) refl

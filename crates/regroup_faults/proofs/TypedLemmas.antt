@@ -10,9 +10,9 @@ use Rattle.num_format_decimal.specs.FixedPoint.{FixedPoint}
 use Rattle.num_format_decimal.specs.Marks.{MarksDecimals}
 use Rattle.num_format_decimal.specs.Parsing.{DecimalResult}
 use Rattle.num_format_decimal.specs.declared.buffer.TheConstants.{MAX_DECIMAL_LEN}
-use Rattle.num_format_decimal.specs.declared.parsing.ParseDecimalError.{ParseDecimalError}
-use Rattle.num_format_decimal.specs.declared.parsing.ParseDecimalError.TheVariants as decimal
-use Rattle.num_format_typed.specs.Typed.{IsTypable, TypedDecimalResult, TypedResult, core_of, map_error, place_in, placed_decimal}
+use Rattle.num_format_parsing.specs.declared.error.StrictError.{StrictError}
+use Rattle.num_format_parsing.specs.declared.error.StrictError.TheVariants as strict
+use Rattle.num_format_typed.specs.Typed.{IsTypable, TypedDecimalResult, TypedResult, core_of, map_error, place_in, placed}
 use Rattle.num_format_typed.specs.Typed.{typed_text}
 use Rattle.num_format_typed.specs.declared.typed.TypedError.{TypedError}
 use Rattle.num_format_typed.specs.declared.typed.TypedError.TheVariants.{Number, TooLong}
@@ -24,14 +24,14 @@ use Rattle.regroup_faults.specs.declared.message.Why.{Why}
 use Rattle.regroup_faults.specs.declared.message.Why.TheVariants as why
 
 -- what a result says
-abbrev pub why_result : Result FixedPoint (TypedError ParseDecimalError) → Why
+abbrev pub why_result : Result FixedPoint (TypedError StrictError) → Why
 why_result (Ok d) = why.Unknown
 why_result (Err TooLong) = why.TooLong
 why_result (Err (Number e)) = why_in e
 
-in-placed : (place : ℕ → ℕ) (e : ParseDecimalError) → why_placed place (λ c. c) (why_in e) ≡ why_in (placed_decimal place e)
-in-placed place (decimal.Unexpected at) = refl
-in-placed place decimal.Misspelled = refl
+in-placed : (place : ℕ → ℕ) (e : StrictError) → why_placed place (λ c. c) (why_in e) ≡ why_in (placed place e)
+in-placed place (strict.Unexpected at) = refl
+in-placed place strict.Misspelled = refl
 in-placed place e = refl
 
 module _ (f : FormatData) (utf8 : HasUtf8Texts f) where
@@ -59,7 +59,7 @@ module _ (f : FormatData) (utf8 : HasUtf8Texts f) where
       (Decides-and _ _ (not-true _, not_from_false _) (not-true _, not_from_false _))))))
 
   module _ (t : List ℕ) where
-    refused-none : (e : ParseDecimalError) → DecimalResult f t (Err e) → decimal_read f t ≡ None
+    refused-none : (e : StrictError) → DecimalResult f t (Err e) → decimal_read f t ≡ None
     refused-none e result = decimal_read-none f utf8 t (λ d parsed. let is = (result.decimal d).1 parsed in absurd (cc is))
 
     -- a text that is typed for a number is UTF-8
@@ -70,12 +70,12 @@ module _ (f : FormatData) (utf8 : HasUtf8Texts f) where
     typed-utf8 d (TypedResult.too_long taken e parses text long is) = absurd (cc is)
     typed-utf8 d (TypedResult.typed taken e parses text short strict second is) = text
 
-    short-or : (strict : Result FixedPoint ParseDecimalError) → DecimalResult f (typed_text f t) strict
+    short-or : (strict : Result FixedPoint StrictError) → DecimalResult f (typed_text f t) strict
         → decimal_read f (typed_text f t) ≡ result_ok strict
     short-or (Ok d) second = decimal_read-parsed f utf8 (typed_text f t) d ((second.decimal d).0 refl)
     short-or (Err e) second = decimal_read-none f utf8 (typed_text f t) (λ d parsed. let is = (second.decimal d).1 parsed in absurd (cc is))
 
-    pub typed_read-is : IsUtf8 t → (r : Result FixedPoint (TypedError ParseDecimalError)) → TypedDecimalResult f t r
+    pub typed_read-is : IsUtf8 t → (r : Result FixedPoint (TypedError StrictError)) → TypedDecimalResult f t r
         → typed_read f t ≡ result_ok r
     unfolding typed_read
     typed_read-is text r (TypedResult.format_refused not is) =
@@ -92,13 +92,13 @@ module _ (f : FormatData) (utf8 : HasUtf8Texts f) where
     typed_read-is text r (TypedResult.typed taken e parses utf8_text short (Err e2) second is) =
         rw (types-Decides.1 taken, refused-none e parses, le-leb _ _ short, short-or (Err e2) second, is) refl
 
-    why-strict : (strict : Result FixedPoint ParseDecimalError) → DecimalResult f (typed_text f t) strict
-        → (r : Result FixedPoint (TypedError ParseDecimalError)) → r ≡ map_error (placed_decimal (place_in f t)) strict
+    why-strict : (strict : Result FixedPoint StrictError) → DecimalResult f (typed_text f t) strict
+        → (r : Result FixedPoint (TypedError StrictError)) → r ≡ map_error (placed (place_in f t)) strict
         → why_placed (place_in f t) (λ c. c) (why_refused f (typed_text f t)) ≡ why_result r
     why-strict (Ok d) second r is = rw (why-parsed f utf8 (typed_text f t) d ((second.decimal d).0 refl), is) refl
     why-strict (Err e) second r is = rw (why-is f utf8 (typed_text f t) e ((second.refused e).0 refl), is) (in-placed (place_in f t) e)
 
-    pub why_untyped-is : IsUtf8 t → (r : Result FixedPoint (TypedError ParseDecimalError)) → TypedDecimalResult f t r
+    pub why_untyped-is : IsUtf8 t → (r : Result FixedPoint (TypedError StrictError)) → TypedDecimalResult f t r
         → why_untyped f t ≡ why_result r
     unfolding why_untyped
     why_untyped-is text r (TypedResult.format_refused not is) =

@@ -16,8 +16,8 @@ use Rattle.num_format_decimal.specs.Parsing.{after_mark, unexpected_in_decimal}
 use Rattle.num_format_decimal.specs.Text.{decimal_text}
 use Rattle.num_format_decimal.specs.declared.buffer.TheConstants.{MAX_DECIMAL_LEN}
 use Rattle.num_format_decimal.specs.declared.decimal.TheConstants.{MAX_SCALE}
-use Rattle.num_format_decimal.specs.declared.parsing.ParseDecimalError.{ParseDecimalError}
-use Rattle.num_format_decimal.specs.declared.parsing.ParseDecimalError.TheVariants as decimal
+use Rattle.num_format_parsing.specs.declared.error.StrictError.{StrictError}
+use Rattle.num_format_parsing.specs.declared.error.StrictError.TheVariants as strict
 use Rattle.num_format_typed.specs.Typed.{place_in, typed_text}
 use Rattle.regroup_faults.specs.Notation.{NotationData}
 use Rattle.regroup_faults.specs.Quoting.{hex_digit, quoted, shown}
@@ -39,9 +39,9 @@ kept_in (Other text) = text
 kept_in (Capacity len cap) = []
 
 -- what an error says
-abbrev pub why_in : ParseDecimalError → Why
-why_in (decimal.Unexpected at) = why.Unexpected at
-why_in decimal.Misspelled = why.Misspelled
+abbrev pub why_in : StrictError → Why
+why_in (strict.Unexpected at) = why.Unexpected at
+why_in strict.Misspelled = why.Misspelled
 why_in _ = why.Unknown
 
 -- what is known of a text that is canonical for no decimal, by what is left of it from the first byte on that strict parsing does not

@@ -21,8 +21,9 @@ use crate::notation::Notation;
 use crate::quoting::{MAX_QUOTED_LEN, hex_digit, quoted, shown};
 use arrayvec::ArrayString;
 use num_format::laws::format_data;
+use num_format::parsing::StrictError;
 use num_format::{Error, ErrorKind, Format};
-use num_format_decimal::{Decimal, DecimalBuffer, MAX_DECIMAL_LEN, ParseDecimalError};
+use num_format_decimal::{Decimal, DecimalBuffer, MAX_DECIMAL_LEN};
 use num_format_digits::{Digits, DigitsError};
 use num_format_typed::rewriting::{bytes_within, split_first};
 use num_format_typed::{TypedError, parse_typed_decimal};
@@ -372,7 +373,7 @@ fn why_in_digits<F: Format>(reading: Reading, text: &str, from: &Notation<'_, F>
 {
     let digits = from.digits;
     let mut array = [0; MAX_DECIMAL_LEN];
-    match digits.to_ascii::<ParseDecimalError>(text, &mut array) {
+    match digits.to_ascii::<StrictError>(text, &mut array) {
         Ok(ascii) => match str::from_utf8(ascii) {
             Ok(ascii) => why_placed(digits, text, why_read(reading, ascii, from.format)),
             Err(_) => Why::Unknown,
@@ -468,12 +469,12 @@ fn why_untyped<F: Format>(text: &str, from: &F) -> Why
 }
 
 /// Returns what an error says.
-fn why_in(error: ParseDecimalError) -> Why
+fn why_in(error: StrictError) -> Why
     ensures { result ≡ why_in error }
 {
     match error {
-        ParseDecimalError::Unexpected { at } => Why::Unexpected(at),
-        ParseDecimalError::Misspelled => Why::Misspelled,
+        StrictError::Unexpected { at } => Why::Unexpected(at),
+        StrictError::Misspelled => Why::Misspelled,
         _ => Why::Unknown,
     }
 }

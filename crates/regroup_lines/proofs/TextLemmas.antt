@@ -1,5 +1,5 @@
 -- The number in the text of a line.
-use Rattle.regroup_lines.proofs.Common.{ParseDecimalError, Result, DecimalResult, NotationData}
+use Rattle.regroup_lines.proofs.Common.{StrictError, Result, DecimalResult, NotationData}
 use Rattle.regroup_lines.proofs.Common.{Err, fixed_point, FixedPoint, FormatData, HasUtf8Texts, IsUtf8, IsUtf8-from_is_utf8}
 use Rattle.regroup_lines.proofs.Common.{List, Ok, Option, ParsesDecimal, Refused, Some, ap, cases_Bool, decimal_read}
 use Rattle.regroup_lines.proofs.Common.{decimal_written, denoted, false, false_from_ne_true, if◌then◌else◌, inl, inr, is_utf8}
@@ -40,7 +40,7 @@ module _ (from : FormatData) (text : List ℕ) where
   pub strict-refused : HasUtf8Texts from → ((d : FixedPoint) → ¬ (ParsesDecimal from text d)) → None ≡ of_utf8 text (decimal_read from text)
   strict-refused utf8 refused = rw (decimal_read-none from utf8 text refused) (none-of_utf8 text)
 
-  pub strict-read : HasUtf8Texts from → (r : Result FixedPoint ParseDecimalError) → DecimalResult from text r
+  pub strict-read : HasUtf8Texts from → (r : Result FixedPoint StrictError) → DecimalResult from text r
       → result_ok r ≡ of_utf8 text (decimal_read from text)
   strict-read utf8 (Ok d) result =
       let parsed = (result.decimal d).0 refl in
@@ -48,7 +48,7 @@ module _ (from : FormatData) (text : List ℕ) where
   strict-read utf8 (Err e) result = strict-refused utf8 (λ d parsed. let is = (result.decimal d).1 parsed in absurd (cc is))
 
   -- as a person types it
-  pub typed-read : HasUtf8Texts from → (r : Result FixedPoint (TypedError ParseDecimalError)) → TypedDecimalResult from text r
+  pub typed-read : HasUtf8Texts from → (r : Result FixedPoint (TypedError StrictError)) → TypedDecimalResult from text r
       → result_ok r ≡ of_utf8 text (typed_read from text)
   typed-read utf8 (Ok d) result =
       let is = typed-utf8 from utf8 text d result in

@@ -10,8 +10,8 @@ ghost use Rattle.regroup_lines.specs.Lines.{number_written, read_by};
 use crate::line_fault::LineFault;
 use num_format::Format;
 use num_format::laws::format_data;
-use num_format::parsing::FromFormattedStr;
-use num_format_decimal::{Decimal, DecimalParser, MAX_DECIMAL_LEN, ParseDecimalError};
+use num_format::parsing::{FromFormattedStr, StrictError};
+use num_format_decimal::{Decimal, DecimalParser, MAX_DECIMAL_LEN};
 use num_format_digits::Digits;
 use num_format_typed::{TypedError, TypedParser};
 use regroup_faults::{Notation, Reading};
@@ -124,7 +124,7 @@ impl<'a, F: Format> Parser<'a, F> {
     {
         let mut array = [0; MAX_DECIMAL_LEN];
         let digits = self.digits;
-        match digits.to_ascii::<ParseDecimalError>(text, &mut array) {
+        match digits.to_ascii::<StrictError>(text, &mut array) {
             Ok(ascii) => self.read_ascii(reading, ascii),
             Err(_) => None,
         }
@@ -147,12 +147,12 @@ impl<'a, F: Format> Parser<'a, F> {
     }
 
     /// Returns the decimal that a person means by a text.
-    fn read_typed(&self, text: &[u8]) -> Result<Decimal, TypedError<ParseDecimalError>>
+    fn read_typed(&self, text: &[u8]) -> Result<Decimal, TypedError<StrictError>>
         ensures { TypedDecimalResult self.now.format text.now result }
     {
         match &self.typed {
             Some(parser) => parser.parse_decimal_bytes(text),
-            None => Err(TypedError::Number(ParseDecimalError::AmbiguousFormat)),
+            None => Err(TypedError::Number(StrictError::AmbiguousFormat)),
         }
     }
 }

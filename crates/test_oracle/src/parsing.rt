@@ -3,7 +3,7 @@
 use crate::calls::agreed;
 use num_format::parsing::{FromFormattedStr, ParseFormatted, StrictError, StrictParser};
 use num_format::{Error, ErrorKind, Format};
-use num_format_decimal::{ParseAtScaleError, ParseDecimalError};
+use num_format_decimal::ParseAtScaleError;
 use num_format_typed::{TypedError, parse_typed, parse_typed_bytes};
 use std::alloc::Global;
 use std::fmt::Display;
@@ -35,15 +35,6 @@ impl Cause for StrictError {
     fn cause(&self, alloc: Global, _: &str) -> Option<String> {
         match self {
             StrictError::Unexpected { at } => format!(in alloc; "Unexpected {at}").ok(),
-            error => format!(in alloc; "{error:?}").ok(),
-        }
-    }
-}
-
-impl Cause for ParseDecimalError {
-    fn cause(&self, alloc: Global, _: &str) -> Option<String> {
-        match self {
-            ParseDecimalError::Unexpected { at } => format!(in alloc; "Unexpected {at}").ok(),
             error => format!(in alloc; "{error:?}").ok(),
         }
     }

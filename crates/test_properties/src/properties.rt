@@ -9,7 +9,7 @@ use num_format::{
     Buffer, CustomFormat, Error, ErrorKind, Format, Grouping, Locale, ToFormattedStr,
     ToFormattedString, WriteFormatted,
 };
-use num_format_decimal::{Decimal, DecimalBuffer, ParseDecimal, ParseDecimalError};
+use num_format_decimal::{Decimal, DecimalBuffer, ParseDecimal};
 use std::alloc::Global;
 use std::fmt::Display;
 use std::io;
@@ -180,7 +180,7 @@ pub fn is_canonical_decimal<F: Format>(bytes: &[u8], format: &F) -> Option<bool>
 
 /// Returns whether the bytes are refused as a decimal for the format alone.
 pub fn is_decimal_ambiguous<F: Format>(bytes: &[u8], format: &F) -> bool {
-    Decimal::from_strict_bytes(bytes, format) == Err(ParseDecimalError::AmbiguousFormat)
+    Decimal::from_strict_bytes(bytes, format) == Err(StrictError::AmbiguousFormat)
 }
 
 /// Returns whether the printed decimal, grouped or not, is parsed as one of the same units and scale.

@@ -12,7 +12,7 @@ mod integers;
 mod parsing;
 mod rounding;
 
-pub use self::parsing::{DecimalParser, ParseAtScaleError, ParseDecimal, ParseDecimalError};
+pub use self::parsing::{DecimalParser, ParseAtScaleError, ParseDecimal};
 pub use self::rounding::Rounding;
 
 /// The largest scale: the most decimals that a [`Decimal`] has.

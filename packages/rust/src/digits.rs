@@ -1,7 +1,7 @@
 use core::fmt;
 
 use crate::buffer::impl_text;
-use crate::decimal::{Decimal, ParseAtScaleError, ParseDecimalError, Rounding};
+use crate::decimal::{Decimal, ParseAtScaleError, Rounding};
 use crate::ffi::{self, RawFormat, Refusal, Text, MAX_DIGITS_LEN};
 use crate::format::Format;
 use crate::locale::Locale;
@@ -101,7 +101,7 @@ impl Digits {
     /// # Errors
     ///
     /// As of [`parse_strict`](Digits::parse_strict).
-    pub fn parse_decimal<F: Format>(self, text: &str, format: &F) -> Result<Decimal, DigitsError<ParseDecimalError>> {
+    pub fn parse_decimal<F: Format>(self, text: &str, format: &F) -> Result<Decimal, DigitsError<StrictError>> {
         Ok(Decimal::from_raw_str(text, &self.raw(format))?)
     }
 
@@ -145,7 +145,7 @@ impl Digits {
         self,
         text: &str,
         format: &F,
-    ) -> Result<Decimal, DigitsError<TypedError<ParseDecimalError>>> {
+    ) -> Result<Decimal, DigitsError<TypedError<StrictError>>> {
         Ok(Decimal::from_raw_typed_str(text, &self.raw(format))?)
     }
 

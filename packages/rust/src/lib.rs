@@ -61,7 +61,7 @@ pub use self::format::{prints_alike, reads_back, Format};
 pub use self::formatted::{text_width, Formatted};
 pub use self::grouping::Grouping;
 pub use self::locale::Locale;
-pub use self::parsing::{ParseAtScaleError, ParseDecimal, ParseDecimalError, StrictError, StrictParser};
+pub use self::parsing::{ParseAtScaleError, ParseDecimal, StrictError, StrictParser};
 pub use self::to_formatted_str::ToFormattedStr;
 #[cfg(feature = "std")]
 pub use self::to_formatted_string::ToFormattedString;

@@ -2,7 +2,7 @@
 
 use core::fmt;
 
-use crate::decimal::{Decimal, ParseAtScaleError, ParseDecimalError, Rounding};
+use crate::decimal::{Decimal, ParseAtScaleError, Rounding};
 use crate::ffi::{RawFormat, Refusal};
 use crate::format::Format;
 use crate::parsing::{FromFormattedStr, StrictError};
@@ -42,7 +42,7 @@ pub fn parse_typed<N: FromFormattedStr, F: Format>(text: &str, format: &F) -> Re
 /// # Errors
 ///
 /// The first of the causes of [`TypedError`] that holds. No locale is ambiguous.
-pub fn parse_typed_decimal<F: Format>(text: &str, format: &F) -> Result<Decimal, TypedError<ParseDecimalError>> {
+pub fn parse_typed_decimal<F: Format>(text: &str, format: &F) -> Result<Decimal, TypedError<StrictError>> {
     TypedParser { format: RawFormat::with_decimal_mark(format) }.parse_decimal(text)
 }
 
@@ -104,7 +104,7 @@ impl TypedParser {
     /// # Errors
     ///
     /// A [`TypedError`]. It is `AmbiguousFormat` where the decimal mark can be misread.
-    pub fn parse_decimal(&self, text: &str) -> Result<Decimal, TypedError<ParseDecimalError>> {
+    pub fn parse_decimal(&self, text: &str) -> Result<Decimal, TypedError<StrictError>> {
         Ok(Decimal::from_raw_typed_str(text, &self.format)?)
     }
 

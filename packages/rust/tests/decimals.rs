@@ -4,8 +4,7 @@
 use std::collections::HashSet;
 
 use num_format::{
-    CustomFormat, Decimal, DecimalError, Locale, ParseAtScaleError, ParseDecimal, ParseDecimalError, Rounding,
-    MAX_SCALE,
+    CustomFormat, Decimal, DecimalError, Locale, ParseAtScaleError, ParseDecimal, Rounding, StrictError, MAX_SCALE,
 };
 
 fn decimal(units: i128, scale: u8) -> Decimal {
@@ -92,7 +91,7 @@ fn errors_as_texts() {
         (".5", "The text is not as the number is printed."),
         ("1 5", "The text has an unexpected byte at 1."),
         ("", "The text has no digit."),
-        ("170141183460469231731687303715884105.728", "The units are out of range."),
+        ("170141183460469231731687303715884105.728", "The number is no value of the type."),
     ] {
         let error = text.parse_decimal(&Locale::en).unwrap_err();
         assert_eq!(error.to_string(), message);
@@ -140,7 +139,7 @@ fn plain_texts() {
     let smallest = decimal(i128::MIN, 38);
     let text = "-1.70141183460469231731687303715884105728";
     assert_eq!((&*smallest.to_string(), parse(text)), (text, smallest));
-    use ParseDecimalError::{Misspelled, Unexpected};
+    use StrictError::{Misspelled, Unexpected};
     for (text, cause) in [
         ("1,234.50", Unexpected { at: 1 }),
         ("+5", Unexpected { at: 0 }),

@@ -2,7 +2,7 @@
 
 use std::num::NonZeroU8;
 
-use num_format::parsing::{ParseAtScaleError, ParseDecimalError, TypedError};
+use num_format::parsing::{ParseAtScaleError, StrictError, TypedError};
 use num_format::{CustomFormat, Decimal, DecimalError, DigitText, Digits, DigitsError, Grouping, Locale, StrictError};
 
 #[test]
@@ -65,7 +65,7 @@ fn decimals_are_typed_at_a_scale() {
     for (text, result) in [
         (" +١٬٢٣٤٫٥", Ok(123450)),
         ("١٫٠٠٥", Err(of_number(ParseAtScaleError::Rescale(DecimalError::DigitsLost)))),
-        ("١٫٥ x", Err(of_number(ParseAtScaleError::Parse(ParseDecimalError::Unexpected { at: 6 })))),
+        ("١٫٥ x", Err(of_number(ParseAtScaleError::Parse(StrictError::Unexpected { at: 6 })))),
         ("١٫5", Err(DigitsError::OtherNumeral { at: 4 })),
         (&"١".repeat(200), Err(DigitsError::TooLong)),
     ] {
@@ -77,7 +77,7 @@ fn decimals_are_typed_at_a_scale() {
 fn an_ambiguous_format_comes_first() {
     let (arab, format) = (Digits::from_name("arab").unwrap(), CustomFormat::builder().minus_sign("").build().unwrap());
     let strict = StrictError::AmbiguousFormat;
-    let decimal = ParseDecimalError::AmbiguousFormat;
+    let decimal = StrictError::AmbiguousFormat;
     for text in ["1", "٢", "x"] {
         assert_eq!(arab.parse_strict::<i8, _>(text, &format), Err(DigitsError::Number(strict)));
         assert_eq!(arab.parse_typed::<i8, _>(text, &format), Err(DigitsError::Number(TypedError::Number(strict))));

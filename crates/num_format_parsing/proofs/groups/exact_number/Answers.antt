@@ -22,15 +22,19 @@ loop-digit_count-preserved g c =
           let digit = sym c.is_ascii_digit.ensures.value ∙ w.if-is_ascii_digit.true in
           let small : get_or t l.digit_count 0 < 58 = grind (arith, nat_tests, digit) in
           rw w.number-is (record {
-            number = omega (arith, w.in_ok-number.ensures, l.invariant.number,
-                number-digit t l.digit_count c.loop-digit_count-test.true digit);
+            number = omega (
+              arith,
+              w.in_ok-number.ensures,
+              l.invariant.number,
+              number-digit t l.digit_count c.loop-digit_count-test.true digit,
+            );
             below = omega (arith, w.in_ok-number.ensures, l.invariant.below, tenfold l.digit_count, small);
           })
       | else-is_ascii_digit w ↦
           rw w.number-is (record {
             number = l.invariant.number
                 ∙ ap (number_from_digits 10) (sym (text_digits-on-other t l.digit_count c.loop-digit_count-test.true
-                    (sym c.is_ascii_digit.ensures.value
+                (sym c.is_ascii_digit.ensures.value
                 ∙ w.if-is_ascii_digit.false)));
             below = omega (arith, l.invariant.below, tenfold l.digit_count);
           })

@@ -86,8 +86,15 @@ returns g c = λ f minus.
     ∙ ap (number_from_digits 10) (sym (text_digits-bytes t utf8)) in
     made-of k g.N.Sealed.value f t c.from_sign_and_magnitude.result utf8
     (λ none. c.if-digit_count-eq0.false (omega (arith, ap length none, counted, c.count_digits-digit_count.ensures)))
-    (λ many. omega (arith, one, many, counted, c.count_digits-digit_count.ensures, c.most_digits.ensures,
-        c.if-digit_count-most_digits.false))
+    (λ many. omega (
+      arith,
+      one,
+      many,
+      counted,
+      c.count_digits-digit_count.ensures,
+      c.most_digits.ensures,
+      c.if-digit_count-most_digits.false,
+    ))
     (subst (λ x. list_any is_other_numeral (chars x) ≡ false) c.from_utf8_unchecked.ensures
     (sym c.has_other_numeral.ensures ∙ c.if-has_other_numeral.false))
     (subst (λ n. MatchOption c.from_sign_and_magnitude.result (¬ (IsSignedValueOf k (is_negative_text f t) n))

@@ -1,7 +1,7 @@
 use Rattle.std.proofs.Common.{Ok, Err, subst}
 use Rattle.std.specs.Prelude.{◌≤◌}
 use Rattle.num_format_decimal.specs.declared.decimal.TheConstants.{MAX_SCALE}
-use Rattle.num_format_decimal.specs.declared.parsing.ParseDecimalError.TheVariants as cause
+use Rattle.num_format_parsing.specs.declared.error.StrictError.TheVariants as cause
 use Rattle.num_format_decimal.specs.Shapes.{HasReading}
 use Rattle.num_format_decimal.proofs.CauseLemmas.{result-judged}
 use Rattle.num_format_decimal.proofs.parser.DecimalParser.parse_any.Goals as goal

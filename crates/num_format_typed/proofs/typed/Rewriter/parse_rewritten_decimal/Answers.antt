@@ -21,4 +21,4 @@ returns-in-Err g c =
     TypedResult.typed (c.requires.typable, c.requires.marks) c.requires.refused.0 c.requires.refused.1 c.utf8.text
     (omega (arith, ap length same, c.in-Some.ensures.fits))
     (Err c.in-Err.error) (subst (λ (t : List ℕ). DecimalResult c.args.self.now t (Err c.in-Err.error)) same (search rules))
-    (ap (λ e. Err (Number e)) c.placed_decimal.ensures)
+    (ap (λ e. Err (Number e)) c.placed.ensures)
