@@ -54,9 +54,13 @@ void *memset(void *to, int byte, size_t length) {
 #define PERSIAN TEXT(MINUS "9\u066c" "223\u066c" "372\u066c" "036\u066c" "854\u066c" "775\u066c" "808")
 #define ARABEXT TEXT(MINUS "۹\u066c" "۲۲۳\u066c" "۳۷۲\u066c" "۰۳۶\u066c" "۸۵۴\u066c" "۷۷۵\u066c" "۸۰۸")
 #define PERSIAN_DECIMAL TEXT(MINUS "1\u066c" "234\u066b" "50")
+#define PERSIAN_DIGITS TEXT(MINUS "1\u066c" "234\u066c" "567\u066c" "890\u066b" "12")
+#define ARABEXT_DIGITS TEXT(MINUS "۱\u066c" "۲۳۴\u066c" "۵۶۷\u066c" "۸۹۰\u066b" "۱۲")
+#define DEVA_DIGITS TEXT(MINUS "१\u066c" "२३४\u066c" "५६७\u066c" "८९०\u066b" "१२")
+#define ADLM_DIGITS TEXT(MINUS "𞥑\u066c" "𞥒𞥓𞥔\u066c" "𞥕𞥖𞥗\u066c" "𞥘𞥙𞥐\u066b" "𞥑𞥒")
 #define ARABEXT_DECIMAL TEXT(MINUS "۱\u066c" "۲۳۴\u066b" "۵۰")
 
-static num_format en, fr, fa, arabext, built, filled;
+static num_format en, fr, fa, arabext, deva, adlm, built, filled;
 static char text[NUM_FORMAT_DECIMAL_MAX];
 static int64_t number;
 static uint64_t low, high;
@@ -73,6 +77,64 @@ static size_t texts_length;
 
 #define NO_NULLS NULL, 0, 0
 #define TEXTS offsets, sizeof offsets, NUM_FORMAT_I32, texts, sizeof texts
+
+/* A column of numbers of 19 digits, printed under a format as numbers, or as decimals with two of them after the mark. */
+typedef struct column {
+    num_format *format;
+    int32_t offsets[ROWS + 1];
+    char texts[512];
+    size_t length;
+} column;
+static column in_fa = {.format = &fa}, in_arabext = {.format = &arabext};
+static column in_deva = {.format = &deva}, in_adlm = {.format = &adlm};
+static column prices_in_fa = {.format = &fa}, prices_in_arabext = {.format = &arabext};
+static column prices_in_deva = {.format = &deva}, prices_in_adlm = {.format = &adlm};
+static const int64_t longest[ROWS] = {INT64_MIN, INT64_MAX, INT64_MIN, INT64_MAX};
+static uint64_t units[2 * ROWS], parsed_units[2 * ROWS];
+
+#define PRINTED(column) (column)->offsets, sizeof (column)->offsets, NUM_FORMAT_I32, (column)->texts, sizeof (column)->texts
+#define TO(values) values, sizeof values, NO_NULLS
+
+static int print_longest(column *to) {
+    return num_format_print_column(to->format, NUM_FORMAT_I64, TO(longest), PRINTED(to), &to->length);
+}
+static int print_prices(column *to) {
+    return num_format_print_decimal_column(to->format, units, sizeof units, 2, NO_NULLS, PRINTED(to), &to->length);
+}
+static int parse_longest(column *from) {
+    return num_format_parse_column(from->format, NUM_FORMAT_I64, 0, PRINTED(from), TO(parsed), statuses, ROWS);
+}
+static int parse_longest_typed(column *from) {
+    return num_format_parse_column(from->format, NUM_FORMAT_I64, NUM_FORMAT_TYPED, PRINTED(from), TO(parsed), statuses, ROWS);
+}
+static int parse_prices(column *from) {
+    return num_format_parse_decimal_column(from->format, 2, PRINTED(from), TO(parsed_units), statuses, ROWS);
+}
+static int parse_prices_typed(column *from) {
+    return num_format_parse_typed_decimal_column(from->format, 2, PRINTED(from), TO(parsed_units), statuses, ROWS);
+}
+
+/* Prints the columns to parse, and returns 0. */
+static int print_columns(void) {
+    for (size_t i = 0; i < ROWS; i++) {
+        units[2 * i] = (uint64_t)longest[i];
+        units[2 * i + 1] = longest[i] < 0 ? UINT64_MAX : 0;
+    }
+    return print_longest(&in_fa) | print_longest(&in_arabext) | print_longest(&in_deva) | print_longest(&in_adlm) |
+           print_prices(&prices_in_fa) | print_prices(&prices_in_arabext) | print_prices(&prices_in_deva) |
+           print_prices(&prices_in_adlm);
+}
+
+/* A call of a function with each of four columns. */
+#define COLUMNS(call, prefix)                                                \
+    static int call##_fa(void) { return call(&prefix##in_fa); }              \
+    static int call##_arabext(void) { return call(&prefix##in_arabext); }    \
+    static int call##_deva(void) { return call(&prefix##in_deva); }          \
+    static int call##_adlm(void) { return call(&prefix##in_adlm); }
+COLUMNS(parse_longest, )
+COLUMNS(parse_longest_typed, )
+COLUMNS(parse_prices, prices_)
+COLUMNS(parse_prices_typed, prices_)
 
 static int print_short(void) { return num_format_print_i64(&en, -234, text, sizeof text); }
 static int print_long(void) { return num_format_print_i64(&en, INT64_MIN, text, sizeof text); }
@@ -96,6 +158,10 @@ static int decimal(void) { return num_format_parse_decimal(&en, TEXT("1,234.50")
 static int decimal_french(void) { return num_format_parse_decimal(&fr, TEXT(FRENCH ",50"), &low, &high, &scale, &at); }
 static int typed_short(void) { return num_format_parse_typed(&en, NUM_FORMAT_I64, TEXT("-234"), &number, sizeof number, &at); }
 static int decimal_persian(void) { return num_format_parse_decimal(&fa, PERSIAN_DECIMAL, &low, &high, &scale, &at); }
+static int digits_fa(void) { return num_format_parse_decimal(&fa, PERSIAN_DIGITS, &low, &high, &scale, &at); }
+static int digits_arabext(void) { return num_format_parse_decimal(&arabext, ARABEXT_DIGITS, &low, &high, &scale, &at); }
+static int digits_deva(void) { return num_format_parse_decimal(&deva, DEVA_DIGITS, &low, &high, &scale, &at); }
+static int digits_adlm(void) { return num_format_parse_decimal(&adlm, ADLM_DIGITS, &low, &high, &scale, &at); }
 static int decimal_arabext(void) { return num_format_parse_decimal(&arabext, ARABEXT_DECIMAL, &low, &high, &scale, &at); }
 static int typed_long(void) { return num_format_parse_typed(&en, NUM_FORMAT_I64, LONG, &number, sizeof number, &at); }
 static int typed_plus(void) { return num_format_parse_typed(&en, NUM_FORMAT_I64, TEXT(" +1,234"), &number, sizeof number, &at); }
@@ -123,6 +189,12 @@ static int parse_column(void) {
 }
 static int locale(void) { return num_format_locale(&filled, TEXT("de-AT")); }
 static int custom(void) { return num_format_custom(&filled, TEXT("'"), NUM_FORMAT_INDIAN, TEXT("-")); }
+
+#define FOUR(name, call)                                  \
+    {name, call##_fa, 0},                                 \
+    {name ", digits arabext", call##_arabext, 0},         \
+    {name ", digits deva", call##_deva, 0},               \
+    {name ", digits adlm", call##_adlm, 0}
 
 /* The calls, and what each returns. */
 static const struct {
@@ -152,6 +224,7 @@ static const struct {
     {"parse decimal -1 234,50, fr", decimal_french, 0},
     {"parse decimal -1,234.50, fa", decimal_persian, 0},
     {"parse decimal -1,234.50, fa, digits arabext", decimal_arabext, 0},
+    FOUR("parse decimal of 12 digits, fa", digits),
     {"print a column, i64, 4 rows", print_column, 0},
     {"measure a column, i64, 4 rows", measure_column, 0},
     {"parse a column strictly, i64, 4 rows", parse_column, 0},
@@ -169,6 +242,10 @@ static const struct {
     {"parse typed decimal -1,234.50, fa", typed_decimal_persian, 0},
     {"parse typed decimal -1,234.50, fa, digits arabext", typed_decimal_arabext, 0},
     {"parse a column as typed, i64, 4 rows", typed_column, 0},
+    FOUR("parse a column strictly, 19 digits, fa", parse_longest),
+    FOUR("parse a column as typed, 19 digits, fa", parse_longest_typed),
+    FOUR("parse a decimal column, 19 digits, fa", parse_prices),
+    FOUR("parse a typed decimal column, 19 digits, fa", parse_prices_typed),
     {"fill with the locale de-AT", locale, 0},
     {"fill with a custom format", custom, 0},
 };
@@ -184,7 +261,9 @@ static int make(int (*call)(void), long times, int returned) {
 int main(int count, char **words) {
     if (num_format_locale(&en, TEXT("en")) != 0 || num_format_locale(&fr, TEXT("fr")) != 0 ||
         num_format_locale(&fa, TEXT("fa")) != 0 || num_format_lookup(&arabext, TEXT("fa-u-nu-arabext")) != 0 ||
-        num_format_custom(&built, TEXT("’’·"), NUM_FORMAT_INDIAN, TEXT("−")) != 0 || print_column() != 0)
+        num_format_lookup(&deva, TEXT("fa-u-nu-deva")) != 0 || num_format_lookup(&adlm, TEXT("fa-u-nu-adlm")) != 0 ||
+        num_format_custom(&built, TEXT("’’·"), NUM_FORMAT_INDIAN, TEXT("−")) != 0 || print_column() != 0 ||
+        print_columns() != 0)
         return 1;
     for (size_t i = 0; i < sizeof calls / sizeof *calls; i++) {
         if (count == 1)

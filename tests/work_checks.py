@@ -41,6 +41,17 @@ AT_MOST = [
     ("parse typed i64 INT64_MIN, fa, digits arabext", 1.8, "parse typed i64 INT64_MIN, fa"),
     ("parse typed i64 +1,234, fa, digits arabext", 1.8, "parse typed i64 +1,234, fa"),
     ("parse typed decimal -1,234.50, fa, digits arabext", 1.8, "parse typed decimal -1,234.50, fa"),
+    *(
+        (f"{call}, fa, digits {name}", 1.8, f"{call}, fa")
+        for call in [
+            "parse decimal of 12 digits",
+            "parse a column strictly, 19 digits",
+            "parse a column as typed, 19 digits",
+            "parse a decimal column, 19 digits",
+            "parse a typed decimal column, 19 digits",
+        ]
+        for name in ["arabext", "deva", "adlm"]
+    ),
     ("parse typed i64 INT64_MIN", 1.2, "parse strictly i64 INT64_MIN"),
     ("parse typed i64 +1,234 after a space", 3, "parse strictly i64 1,234"),
     ("parse typed i64 -1 234, fr", 3, "parse strictly i64 -1 234, fr"),

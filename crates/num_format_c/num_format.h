@@ -144,7 +144,7 @@ int32_t num_format_names(size_t place, char *name, size_t capacity);
 /* Writes the name of the locale for a language tag, as num_format_lookup finds it, at the start of the array,
  * and returns its length. The other bytes of the array are as they were.
  *
- * Errors: NUM_FORMAT_NOT_UTF8, else NUM_FORMAT_UNKNOWN_LOCALE, else NUM_FORMAT_TOO_SMALL. */
+ * Errors: those of num_format_lookup, else NUM_FORMAT_TOO_SMALL. */
 int32_t num_format_lookup_name(const char *tag, size_t tag_length, char *name, size_t capacity);
 
 /* Returns 1 if every number, printed under the format, parses as the same number again, as any type

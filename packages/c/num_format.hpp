@@ -450,7 +450,7 @@ public:
         return accepted([=](num_format *to) { return num_format_lookup(to, tag.data(), tag.size()); });
     }
 
-    /// The name of that locale. Throws not_utf8 or unknown_locale.
+    /// The name of that locale. Throws what lookup does.
     static std::string lookup_name(std::string_view tag) {
         char name[NUM_FORMAT_MAX];
         return {name, std::size_t(detail::check(num_format_lookup_name(tag.data(), tag.size(), name, sizeof name)))};

@@ -416,7 +416,7 @@ PARSING(num_try_parse_decimal, parse_decimal, false, true)
 PARSING(num_parse_typed_decimal, parse_decimal, true, false)
 PARSING(num_try_parse_typed_decimal, parse_decimal, true, true)
 
-/* Null is returned where the tag is of no locale. */
+/* Null is returned where the tag is of no locale. One that names unknown digits is refused. */
 Datum
 num_locale(PG_FUNCTION_ARGS)
 {
@@ -427,6 +427,10 @@ num_locale(PG_FUNCTION_ARGS)
 	if (!utf8_argument(fcinfo, 0, true, &tag))
 		PG_RETURN_NULL();
 	length = num_format_lookup_name(tag.bytes, tag.length, name, sizeof(name));
+	if (length == NUM_FORMAT_UNKNOWN_DIGITS)
+		ereport(ERROR,
+				(errcode(ERRCODE_INVALID_PARAMETER_VALUE),
+				 errmsg("no digit set is named by the language tag \"%s\"", shown_argument(fcinfo, 0))));
 	if (length < 0)
 		PG_RETURN_NULL();
 	/* Names are ASCII, so they are the same in each encoding. */

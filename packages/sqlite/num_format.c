@@ -466,7 +466,7 @@ static void call_parse_decimal(sqlite3_context *context, int count, sqlite3_valu
         return_decimal(context, &plain, number);
 }
 
-/* num_locale(tag): the name of the locale for a language tag, or NULL where there is none. */
+/* num_locale(tag): the name of the locale for a language tag, or NULL where there is none. Unknown digits are refused. */
 static void call_locale(sqlite3_context *context, int count, sqlite3_value **values) {
     text tag;
     if (has_null(count, values) || !read_text(context, values[0], "tag", &tag))
@@ -475,6 +475,8 @@ static void call_locale(sqlite3_context *context, int count, sqlite3_value **val
     int32_t length = num_format_lookup_name(tag.bytes, tag.length, name, sizeof name);
     if (length == NUM_FORMAT_NOT_UTF8)
         fail(context, "the tag is not UTF-8");
+    else if (length == NUM_FORMAT_UNKNOWN_DIGITS)
+        fail(context, "no digit set is named by the language tag '%q'", shown(tag).bytes);
     else if (length >= 0)
         sqlite3_result_text(context, name, length, SQLITE_TRANSIENT);
 }

@@ -330,10 +330,19 @@ pub record ByTag {A : Type 0} (tag : List ℕ) (old new : A) (result : ℤ) (Fou
   pub not_utf8 : ¬ IsUtf8 tag → Fails NotUtf8 old new result
   pub looked_up : IsUtf8 tag → (found : Option ℕ) × (LooksUpTag tag found × MatchOption found (Fails UnknownLocale old new result) Found)
 
+-- a tag names unknown digits, or no others, and then `Found` holds of the zero of those that it names, if it does
+abbrev pub InDigitsOf : {A : Type 0} (tag : List ℕ) → (old new : A) → (result : ℤ) → (Found : Option ℕ → Type 0) → Type 0
+InDigitsOf tag old new result Found = (named : Result (Option ℕ) UnknownDigits) × TagResult tag (digits_in tag) named
+    × MatchResult named Found (λ _. Fails cross.UnknownDigits old new result)
+
 -- a struct is filled with the format of a locale and the digits that a tag names, which are 0 to 9 if it names none
 abbrev pub FillsByTag : (tag : List ℕ) → (old new : NumFormat) → (result : ℤ) → (place : ℕ) → Type 0
-FillsByTag tag old new result place = (named : Result (Option ℕ) UnknownDigits) × TagResult tag (digits_in tag) named
-    × MatchResult named (λ zero. FillsIn (unwrap_or zero 48) (locale_data place) new result) (λ _. Fails cross.UnknownDigits old new result)
+FillsByTag tag old new result place =
+    InDigitsOf tag old new result (λ zero. FillsIn (unwrap_or zero 48) (locale_data place) new result)
+
+-- the name of a locale is written into an array, unless the tag names unknown digits
+abbrev pub NamesByTag : (tag : List ℕ) → (old new : List ℕ) → (result : ℤ) → (place : ℕ) → Type 0
+NamesByTag tag old new result place = InDigitsOf tag old new result (λ _. Writes (name_of place) old new result)
 
 -- the digits of a struct are set to those of a name, and nothing else
 pub record SetsDigits (name : List ℕ) (old new : NumFormat) (result : ℤ) : Type 0 where

@@ -7,7 +7,7 @@ ghost use Rattle.num_format.specs.RoundTrips.{RoundTrips};
 ghost use Rattle.num_format.specs.Strict.{ParsesStrictly};
 ghost use Rattle.num_format.specs.Text.{text_of};
 ghost use Rattle.num_format_digits.specs.declared.printing.TheConstants.{MAX_DIGIT_TEXT_LEN};
-ghost use Rattle.num_format_c.specs.Calls.{ByTag, FillsByTag, FillsCustom, FillsLocale, ReturnsLength};
+ghost use Rattle.num_format_c.specs.Calls.{ByTag, FillsByTag, FillsCustom, FillsLocale, NamesByTag, ReturnsLength};
 ghost use Rattle.num_format_c.specs.Calls.{ReturnsDecimalLength, Gets, Parses, Prints, PrintsDecimal, SetsDigits};
 ghost use Rattle.num_format_c.specs.Calls.{Tells, Writes, WritesName, decimals, decimal_of, numbers, begins_with_mark};
 ghost use Rattle.num_format_c.specs.Calls.{columns_of, returned, signed_kind, typed_decimals, typed_numbers};
@@ -325,6 +325,11 @@ pub fn parse_decimal(format: &NumFormat, text: &[u8], at: &mut usize) -> Result<
     ensures { Gets decimals (λ d. d) format.now text.now at.old at.new result }
 {
     let (format, digits) = FormatRef::new(format)?;
+    if !digits.is_latin() {
+        if let Some(number) = digits.parse_shown_decimal(text, &format) {
+            return Ok(number);
+        }
+    }
     match in_others(text, digits) {
         None => crossed(Decimal::from_strict_bytes(text, &format), at),
         Some(text) => crossed(digits.parse_decimal(text, &format), at),
@@ -443,18 +448,20 @@ pub fn name(place: usize, array: &mut [u8]) -> Result<i32, Status>
     write(names[place], array)
 }
 
-/// Writes the name of the locale for a language tag at the start of the array, and returns its length.
+/// Writes the name of the locale for a language tag, whose digits are no unknown ones, at the start of the array, and
+/// returns its length.
 pub fn name_by_tag(tag: &[u8], array: &mut [u8]) -> Result<i32, Status>
     ensures { ByTag tag.now array.old array.new (returned result)
-        (λ place. Writes (name_of place) array.old array.new (returned result)) }
+        (λ place. NamesByTag tag.now array.old array.new (returned result) place) }
 {
     let Ok(tag) = str::from_utf8(tag) else {
         return Err(Status::NotUtf8);
     };
-    write(
-        Locale::lookup(tag).ok_or(Status::UnknownLocale)?.name(),
-        array,
-    )
+    let locale = Locale::lookup(tag).ok_or(Status::UnknownLocale)?;
+    let Ok(_) = Digits::of_tag(tag) else {
+        return Err(Status::UnknownDigits);
+    };
+    write(locale.name(), array)
 }
 
 /// Returns whether each number parses again from its text under the format.

@@ -27,7 +27,7 @@ ghost use Rattle.num_format.specs.Text.{text_of};
 ghost use Rattle.num_format_decimal.specs.Marks.{MarksDecimals};
 ghost use Rattle.num_format_decimal.specs.Values.{minus, plus};
 ghost use Rattle.num_format_c.specs.Arithmetic.{Compares, Computes, Rescales, rounding_of};
-ghost use Rattle.num_format_c.specs.Calls.{ByTag, Fails, FillsByTag, FillsCustom, FillsLocale, ReturnsLength};
+ghost use Rattle.num_format_c.specs.Calls.{ByTag, Fails, FillsByTag, FillsCustom, FillsLocale, NamesByTag, ReturnsLength};
 ghost use Rattle.num_format_c.specs.Calls.{ReturnsDecimalLength, Into, ParsesInto, Prints, PrintsDecimal, SetsDigits};
 ghost use Rattle.num_format_c.specs.Calls.{Tells, Writes, WritesName, at_scale, decimal_of, decimals, numbers};
 ghost use Rattle.num_format_c.specs.Calls.{signed_kind, signed_wide, columns_of, typed_at_scale, typed_decimals};
@@ -722,11 +722,10 @@ pub extern "C" fn num_format_names(place: usize, name: &mut [u8]) -> i32
 /// Writes the name of the locale for a language tag, which [`Locale::lookup`](num_format::Locale::lookup)
 /// finds, at the start of the array, and returns its length.
 ///
-/// Errors, in this order: a tag that is not UTF-8, a tag for which there is no locale, an array that is
-/// shorter than the name.
+/// Errors, in this order: those of [`num_format_lookup`], an array that is shorter than the name.
 #[unsafe(no_mangle)]
 pub extern "C" fn num_format_lookup_name(tag: &[u8], name: &mut [u8]) -> i32
-    ensures { ByTag tag.now name.old name.new result (λ place. Writes (name_of place) name.old name.new result) }
+    ensures { ByTag tag.now name.old name.new result (NamesByTag tag.now name.old name.new result) }
 {
     returned(calls::name_by_tag(tag, name))
 }

@@ -7,7 +7,7 @@ use Rattle.std.specs.List.{list_any}
 use Rattle.std.specs.Str.{all_scalars, chars, encode_utf8_all}
 use Rattle.std.proofs.lemmas.Bool.{and_from, and_parts, cases_Bool, or_parts}
 use Rattle.std.proofs.lemmas.Bool.Decides.{nat_tests}
-use Rattle.std.proofs.lemmas.List.{drop-drop, take_more_set}
+use Rattle.std.proofs.lemmas.List.{drop-drop, take-append-drop, take_more_set, take_rest}
 use Rattle.std.proofs.lemmas.List.Concat.{flat_map-append}
 use Rattle.std.proofs.lemmas.Str.{chars-encodes, encode_ascii, encodes-chars, inside_one, scalars-chars}
 use Rattle.num_format_text.specs.Format.{FormatData}
@@ -149,6 +149,17 @@ taken_next z len byte text left rest array before next inside =
     ∙ sym (append_assoc taken (in_digits z (byte ∷ [])) rest)
     ∙ ap (λ t. t ++ rest) (sym (flat_map-append (shown_byte z) (take len array) (byte ∷ []))
     ∙ ap (in_digits z) (sym (take_more_set array len byte inside)))
+
+-- the same after bytes that are copied
+pub copied_after : (z n k : ℕ) (text left rest a b : List ℕ) → text ≡ in_digits z (take n a) ++ left
+    → take (n + k) b ≡ take n a ++ take k left → in_digits z (take k left) ≡ take k left → rest ≡ take (length left - k) (drop k left)
+    → text ≡ in_digits z (take (n + k) b) ++ rest
+copied_after z n k text left rest a b before copied same is =
+    let taken = in_digits z (take n a) in
+    before ∙ ap (λ t. taken ++ t) (sym (take-append-drop k left)) ∙ sym (append_assoc taken (take k left) (drop k left))
+    ∙ ap (λ t. taken ++ t ++ drop k left) (sym same)
+    ∙ ap (λ t. t ++ drop k left) (sym (flat_map-append (shown_byte z) (take n a) (take k left)) ∙ ap (in_digits z) (sym copied))
+    ∙ ap (λ t. in_digits z (take (n + k) b) ++ t) (sym (take_rest left k) ∙ sym is)
 
 -- a text that is shown, of which what was shown has no other numeral, or is canonical for a number
 pub shown_back : (z : ℕ) (t a : List ℕ) → IsZero z → HasNoOthers a → t ≡ in_digits z a → IsUtf8 t × HasOneSet z t × (ascii_of z t ≡ a)

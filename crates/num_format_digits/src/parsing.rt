@@ -12,7 +12,6 @@ ghost use Rattle.num_format_digits.specs.Parsing.{TypedAtScaleInDigits, TypedDec
 ghost use Rattle.num_format_digits.specs.Parsing.{place_in, placed_at_scale};
 
 use crate::digits::Digits;
-use crate::plain::is_plain;
 use num_format_decimal::{Decimal, DecimalParser, MAX_DECIMAL_LEN, ParseAtScaleError};
 use num_format_parsing::{FromFormattedStr, StrictError, StrictParser};
 use num_format_text::Format;
@@ -79,7 +78,7 @@ impl Digits {
             return None;
         };
         let mut array = [0; MAX_DECIMAL_LEN];
-        let len = self.take_text(text, &mut array)?;
+        let (len, _) = self.take_text(text, &mut array)?;
         parser.number(&array[..len])
     }
 
@@ -102,90 +101,18 @@ impl Digits {
         }
     }
 
-    /// Writes the text of bytes with `0` to `9` for the digits of the set to the start of an array, and returns its
-    /// length then, or `None` where only [`to_ascii`](Digits::to_ascii) can tell, as for a text that is refused.
-    ///
-    /// It knows the symbols of most formats, and looks for no other numerals where a text has no others.
-    pub fn take_plain(self, text: &[u8], array: &mut [u8]) -> Option<usize>
-        ensures text { IfSome result (λ len. IsUtf8 text.now × HasOneSet self text.now
-            × (take len array.new ≡ ascii_of self text.now)) }
-        ensures bound { IfSome result (λ len. len ≤ length array.new) }
-        ensures length { length array.new ≡ length array.old }
+    /// Does the same for a decimal, if all other characters of the text are ASCII or symbols of locales.
+    #[inline(never)]
+    pub fn parse_shown_decimal<F: Format>(self, text: &[u8], format: &F) -> Option<Decimal>
+        ensures { IfSome result (λ d. IsUtf8 text.now
+            × DecimalInDigits (F.answers format.now) self text.now (Ok d)) }
     {
-        let len = self.take_text(text, array)?;
-        if is_plain(&array[..len]) {
-            Some(len)
-        } else {
-            None
-        }
-    }
-
-    /// Writes bytes with `0` to `9` for the digits of the set to the start of an array, and returns their number, or
-    /// `None` if they have `0` to `9` themselves, or are too many.
-    #[inline(always)]
-    fn take_text(self, text: &[u8], array: &mut [u8]) -> Option<usize>
-        ensures shown { IfSome result (λ len. (len ≤ length array.new)
-            × (text.now ≡ in_digits self (take len array.new))) }
-        ensures length { length array.new ≡ length array.old }
-        ensures set { IsZero self }
-    {
-        let (zero, width) = self.zero_bytes();
-        match width {
-            1 => self.take_digits(text, zero, 1, array),
-            2 => self.take_digits(text, zero, 2, array),
-            3 => self.take_digits(text, zero, 3, array),
-            _ => self.take_digits(text, zero, 4, array),
-        }
-    }
-
-    /// Does the same for a zero of so many bytes. Where it is inlined they are known, so that a digit takes few tests.
-    #[inline(always)]
-    fn take_digits(
-        self,
-        text: &[u8],
-        zero: [u8; 4],
-        width: usize,
-        array: &mut [u8],
-    ) -> Option<usize>
-        requires set { IsZero self }
-        requires zero { HasZero self width zero }
-        ensures shown { IfSome result (λ len. (len ≤ length array.new)
-            × (text.now ≡ in_digits self (take len array.new))) }
-        ensures length { length array.new ≡ length array.old }
-    {
-        let mut len = 0;
-        let mut left = text;
-        while !left.is_empty() {
-            if len >= array.len() {
-                return None;
-            }
-            let (byte, rest) = self.take_byte(left, zero, width)?;
-            array[len] = byte;
-            len += 1;
-            left = rest;
-        }
-        Some(len)
-    }
-
-    /// Returns the first byte of some, or that of `0` to `9` for a digit of the set, and what follows it.
-    #[inline(always)]
-    fn take_byte(self, text: &[u8], zero: [u8; 4], width: usize) -> Option<(u8, &[u8])>
-        requires set { IsZero self }
-        requires zero { HasZero self width zero }
-        requires some { 1 ≤ length text.now }
-        ensures shown { IfSome result (λ taken. text.now ≡ shown_byte self taken.0 ++ taken.1.now) }
-        ensures shorter { IfSome result (λ taken. length taken.1.now < length text.now) }
-    {
-        if width <= text.len() && text[..width - 1] == zero[..width - 1] {
-            let (last, lowest) = (text[width - 1], zero[width - 1]);
-            if lowest <= last && last <= lowest + 9 {
-                return Some((b'0' + (last - lowest), &text[width..]));
-            }
-        }
-        if text[0].is_ascii_digit() {
+        let Ok(parser) = DecimalParser::new(format) else {
             return None;
-        }
-        Some((text[0], &text[1..]))
+        };
+        let mut array = [0; MAX_DECIMAL_LEN];
+        let len = self.take_plain(text, &mut array)?;
+        parser.decimal(&array[..len])
     }
 
     /// Returns the decimal for which the text is canonical in the digits of the set.

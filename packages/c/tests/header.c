@@ -334,6 +334,7 @@ static void check_digits(void) {
     for (size_t i = 0; i < sizeof refused / sizeof *refused; i++) {
         snprintf(tag, sizeof tag, "en-u-nu-%s", refused[i]);
         compare(tag, num_format_lookup_str(&format, tag), -22);
+        compare(tag, num_format_lookup_name(tag, strlen(tag), NULL, 0), -22);
         compare(tag, num_format_set_digits(&format, refused[i], strlen(refused[i])), -22);
     }
     CHECK(num_format_lookup_str(&format, "english-u-nu-roman"), -5);

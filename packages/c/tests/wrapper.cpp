@@ -216,6 +216,7 @@ static void check_digits(const numfmt::format &de) {
     check("unknown_digits", throws<numfmt::unknown_digits>([&] { de.digits("roman"); }, -22) && !de.try_digits("Arab")
           && throws<numfmt::unknown_digits>([] { numfmt::format::lookup("fa-u-nu-deva-nu-deva"); }, -22)
           && throws<numfmt::unknown_digits>([] { numfmt::format::lookup("zh-u-nu-traditio"); }, -22)
+          && throws<numfmt::unknown_digits>([] { numfmt::format::lookup_name("fa-u-nu-roman"); }, -22)
           && throws<numfmt::not_utf8>([&] { de.digits("\xff"); }, -3) && !numfmt::format::try_lookup("fa-u-nu-"));
     check("lenient in digits", throws<numfmt::error>([&] { arabic.parse_lenient<int>("١"); }, -1));
     check("reads_back in digits", arabic.reads_back() && !arabic.prints_alike(numfmt::format::locale("ar-EG"))

@@ -39,7 +39,7 @@ def test_names():
     assert Format().digits == Format(digits="latn").digits == "0123456789"
     assert Format("fa-u-nu-native") == Format("fa", digits="arabext") == Format("fa-u-nu-deva", digits="arabext")
     assert Format("de-u-nu-native") == Format("de") == Format("de-u-nu-arab", digits="latn")
-    assert num_format.lookup("fa-u-nu-arabext") == num_format.lookup("fa-u-nu-roman") == "fa"
+    assert num_format.lookup("fa-u-nu-arabext") == num_format.lookup("de-u-nu-roman;q=0.5,fa") == "fa"
     assert not Format("fa").prints_alike(Format("fa-u-nu-native"))
     for name in ["", "Arab", "roman", "hanidec", "native", "arab\0", "0123456788", "\u0660", "\u0301", "x" * 5000]:
         with pytest.raises(FormatError) as caught:
@@ -48,9 +48,12 @@ def test_names():
         assert caught.value.cause is Cause.UNKNOWN_DIGITS
     for word in ["roman", "traditio", "finance", "", "deva-nu-deva", "nu", "x-nu-deva"]:
         tag = f"zh-u-nu-{word}"
-        with pytest.raises(FormatError, match="no digit set has this name") as caught:
-            num_format.format(1, tag)
-        assert (caught.value.argument, caught.value.text, caught.value.cause) == ("locale", tag, Cause.UNKNOWN_DIGITS)
+        for call, argument in (lambda tag: num_format.format(1, tag), "locale"), (num_format.lookup, "tag"):
+            with pytest.raises(FormatError, match="no digit set has this name") as caught:
+                call(tag)
+            assert (caught.value.argument, caught.value.text, caught.value.cause) == (argument, tag, Cause.UNKNOWN_DIGITS)
+    with pytest.raises(FormatError, match="tag 'fa-u-nu-roman,en;q=0.5' is refused: no digit set"):
+        num_format.lookup("fa-u-nu-roman,en;q=0.5")
     with pytest.raises(FormatError) as caught:
         Format(digits="\ud800")
     assert (caught.value.argument, caught.value.cause) == ("digits", Cause.NOT_UTF8)

@@ -399,12 +399,12 @@ impl<const N: usize> Text<N> {
         self.len = length(unsafe { num_format_names(place, self.bytes.as_mut_ptr(), N) });
     }
 
-    /// Returns the name that the library has for the locale of a tag, if it has one.
+    /// Returns the name that the library has for the locale of a tag, if it has one, and the digits that the tag names.
     pub(crate) fn of_lookup(tag: &str) -> Option<Self> {
         let mut name = Text::new();
         // SAFETY: the pointers and lengths are those of one `str` and of one array.
         let status = unsafe { num_format_lookup_name(tag.as_ptr(), tag.len(), name.bytes.as_mut_ptr(), N) };
-        if status == status::UNKNOWN_LOCALE {
+        if matches!(status, status::UNKNOWN_LOCALE | status::UNKNOWN_DIGITS) {
             return None;
         }
         name.len = length(status);

@@ -135,7 +135,9 @@ impl Locale {
     /// What follows the first `.` or `@` does not count, nor does the case of ASCII letters, and an underscore counts as a
     /// hyphen. From what is left, subtags are taken away at the end until it is a name: `de-DE` becomes `de`. `C` and
     /// `POSIX` are the locale en-US-POSIX.
-    /// Digits that a tag names, as `fa-u-nu-arabext`, do not count: see [`Digits::of_tag`](crate::Digits::of_tag).
+    ///
+    /// [`Digits::of_tag`](crate::Digits::of_tag) returns the digits that a tag names, as `fa-u-nu-arabext`. Where it
+    /// returns an error, as of `fa-u-nu-roman`, there is no locale for the tag either.
     ///
     /// ```
     /// use num_format::Locale;
@@ -143,6 +145,7 @@ impl Locale {
     /// assert_eq!(Locale::lookup("de_DE.UTF-8"), Some(Locale::de));
     /// assert_eq!(Locale::lookup("zh-hant-TW"), Some(Locale::zh_Hant));
     /// assert_eq!(Locale::lookup("english"), None);
+    /// assert_eq!(Locale::lookup("fa-u-nu-roman"), None);
     /// ```
     pub fn lookup<S: AsRef<str>>(tag: S) -> Option<Locale> {
         let name = Text::<MAX_LEN>::of_lookup(tag.as_ref())?;

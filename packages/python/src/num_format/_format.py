@@ -280,12 +280,16 @@ def lookup(tag: str) -> str | None:
     >>> num_format.lookup("tlh, pt-BR;q=0.8, en;q=0.9, *;q=0.1"), num_format.lookup("de,en;q=0.9")
     ('en', 'de')
 
+    Digits that the tag names do not count, as of ``fa-u-nu-arabext``, where they are known.
+
     Raises:
-        FormatError: The tag has a lone surrogate (`NOT_UTF8`).
+        FormatError: The tag has a lone surrogate (`NOT_UTF8`), or names unknown digits (`UNKNOWN_DIGITS`).
         TypeError: The tag is no ``str``.
     """
     _length("tag", tag)
     found = _native.lookup_name(_preferred(tag))
+    if found == Cause.UNKNOWN_DIGITS:
+        raise FormatError("tag", tag, Cause.UNKNOWN_DIGITS)
     return found if isinstance(found, str) else None
 
 
@@ -298,7 +302,7 @@ def _preferred(tag: str) -> str:
     if "," not in tag and ";" not in tag:
         return tag
     found = [each.groups(default="1") for each in map(_WEIGHTED.fullmatch, tag.split(",")) if each]
-    known = [(name, float(weight)) for name, weight in found if isinstance(_native.lookup_name(name), str)]
+    known = [(name, float(weight)) for name, weight in found if _native.lookup_name(name) != Cause.UNKNOWN_LOCALE]
     # Of equal weights the first.
     return max([each for each in known if each[1]], key=lambda each: each[1], default=("", 0))[0]
 
