@@ -457,11 +457,11 @@ pub fn name_by_tag(tag: &[u8], array: &mut [u8]) -> Result<i32, Status>
     let Ok(tag) = str::from_utf8(tag) else {
         return Err(Status::NotUtf8);
     };
-    let locale = Locale::lookup(tag).ok_or(Status::UnknownLocale)?;
+    let found = Locale::lookup(tag).ok_or(Status::UnknownLocale)?;
     let Ok(_) = Digits::of_tag(tag) else {
         return Err(Status::UnknownDigits);
     };
-    write(locale.name(), array)
+    write(found.name(), array)
 }
 
 /// Returns whether each number parses again from its text under the format.

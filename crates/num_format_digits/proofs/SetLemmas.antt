@@ -1,6 +1,6 @@
 -- What holds of each digit set, and of its digits.
 use Rattle.std.proofs.Common.{◌≡◌, ℕ, ◌+◌, ◌-◌, ◌<◌, ◌≤◌, inl, inr, Bool, true, false, not, ◌&&◌, ◌||◌, suc, zero, List, [], ◌∷◌, ◌++◌}
-use Rattle.std.proofs.Common.{length, take, drop, get_or, refl, ap, ◌∙◌, sym, subst, arith}
+use Rattle.std.proofs.Common.{◌%◌, length, take, drop, get_or, refl, ap, ◌∙◌, sym, subst, arith}
 use Rattle.std.specs.Prelude.{All, Contains, None, Some, bytes_eq, ◌==◌, nat_lt, nat_le, encode_utf8, map}
 use Rattle.std.specs.Char.{is_ascii_digit, IsScalar}
 use Rattle.std.specs.List.{list_all, list_any}
@@ -146,6 +146,11 @@ digit-taken z w bytes text is has front inside low high =
     ap (λ n. take n text) next ∙ take_more text k 0 (omega arith) ∙ ap (λ t. t ++ get_or text k 0 ∷ []) front
     ∙ ap (λ b. take k bytes ++ b ∷ []) sum ∙ zero-raised z w d bytes is small has
     ∙ rw digit (ap (λ n. encode_utf8 (z + n)) back)
+
+-- a byte is higher by at most nine if their difference as a byte is at most nine
+pub raised_by : (t l : ℕ) → t < 256 → l < 0xF7 → (t + (256 - l)) % 256 ≤ 9
+    → (l ≤ t) × (t ≤ l + 9) × ((t + (256 - l)) % 256 ≡ t - l)
+raised_by t l byte low small = (omega arith, omega arith, omega arith)
 
 -- they are numeric
 pub digit-numeric : (z c : ℕ) → IsZero z → is_digit_of z c ≡ true → is_numeric c ≡ true

@@ -27,4 +27,4 @@ returns g c =
     let f = g.F.Format.answers c.args.format.now in
     let symbols = plain-symbols f c.in-Ok.ensures.1 (search rules) (of_printed IsUtf8 IsUtf8-nil f.grouping f.separator (search rules)) in
     number _ g.N.Sealed.kind g.N.Sealed.value f _ c.args.self c.args.text.now (take c.in_ok-len.len c.take_text.new.array) c.number.result
-    c.take_text.ensures.set symbols c.in-Ok.ensures.0 c.in_ok-len.ensures.shown.1 c.number.ensures
+    c.take_text.ensures.set symbols c.in-Ok.ensures.0 c.in_ok-len.ensures.shown c.number.ensures
