@@ -25,7 +25,6 @@ use Rattle.num_format_decimal.specs.declared.error.DecimalError.{DecimalError}
 use Rattle.num_format_decimal.specs.declared.error.DecimalError.TheVariants as rescale
 use Rattle.num_format_decimal.specs.declared.parsing.ParseAtScaleError.{ParseAtScaleError}
 use Rattle.num_format_decimal.specs.declared.parsing.ParseAtScaleError.TheVariants.{Parse, Rescale}
-use Rattle.num_format_parsing.specs.declared.error.StrictError.{StrictError}
 use Rattle.num_format_digits.specs.Digits.{digits_named, in_digits, set_numbered}
 use Rattle.num_format_digits.specs.Parsing.{AtScaleInDigits, DecimalInDigits, ParsesInDigits, TypedAtScaleInDigits, TypedDecimalInDigits}
 use Rattle.num_format_digits.specs.Parsing.{TypedInDigits}

@@ -27,11 +27,11 @@ ghost use Rattle.num_format.specs.Text.{text_of};
 ghost use Rattle.num_format_decimal.specs.Marks.{MarksDecimals};
 ghost use Rattle.num_format_decimal.specs.Values.{minus, plus};
 ghost use Rattle.num_format_c.specs.Arithmetic.{Compares, Computes, Rescales, rounding_of};
-ghost use Rattle.num_format_c.specs.Calls.{ByTag, Fails, FillsByTag, FillsCustom, FillsLocale, NamesByTag, ReturnsLength};
-ghost use Rattle.num_format_c.specs.Calls.{ReturnsDecimalLength, Into, ParsesInto, Prints, PrintsDecimal, SetsDigits};
-ghost use Rattle.num_format_c.specs.Calls.{Tells, Writes, WritesName, at_scale, decimal_of, decimals, numbers};
-ghost use Rattle.num_format_c.specs.Calls.{signed_kind, signed_wide, columns_of, typed_at_scale, typed_decimals};
-ghost use Rattle.num_format_c.specs.Calls.{unsigned_kind, unsigned_wide};
+ghost use Rattle.num_format_c.specs.Calls.{ByTag, Fails, FillsByTag, FillsCustom, FillsLocale, NamesByTag};
+ghost use Rattle.num_format_c.specs.Calls.{ReturnsDecimalLength, ReturnsLength, Into, ParsesInto, Prints};
+ghost use Rattle.num_format_c.specs.Calls.{PrintsDecimal, SetsDigits, Tells, WritesName, at_scale, decimal_of};
+ghost use Rattle.num_format_c.specs.Calls.{decimals, numbers, signed_kind, signed_wide, columns_of, typed_at_scale};
+ghost use Rattle.num_format_c.specs.Calls.{typed_decimals, unsigned_kind, unsigned_wide};
 ghost use Rattle.num_format_c.specs.Columns.{MeasuresDecimals, MeasuresNumbers, ParsesDecimals, ParsesNumbers};
 ghost use Rattle.num_format_c.specs.Columns.{ParsesTypedInto, PrintsDecimals, PrintsNumbers, TypesDecimals, to_parsed};
 ghost use Rattle.num_format_c.specs.Columns.{to_printed};
@@ -385,7 +385,7 @@ pub extern "C" fn num_format_parse_strict_i128(
 /// returns 0.
 ///
 /// Errors, in this order: a struct that has no format, and those of
-/// [`StrictError`](num_format_decimal::StrictError). The place of an unexpected byte is written.
+/// [`StrictError`](num_format::parsing::StrictError). The place of an unexpected byte is written.
 #[unsafe(no_mangle)]
 pub extern "C" fn num_format_parse_decimal(
     format: &NumFormat,

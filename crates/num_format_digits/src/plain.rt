@@ -1,5 +1,6 @@
 //! Texts in the digits of a set, with `0` to `9` for these, by their bytes.
-ghost use Rattle.std.specs.Prelude.{◌≡◌, ℕ, List, ◌+◌, ◌<◌, ◌≤◌, ◌++◌, true, Contains, IfSome, IsTrue, IsUtf8, drop, length, take};
+ghost use Rattle.std.specs.Prelude.{◌≡◌, ℕ, List, ◌+◌, ◌≤◌, ◌++◌, true, Contains, IfSome, IsTrue, IsUtf8, drop};
+ghost use Rattle.std.specs.Prelude.{length, take};
 ghost use Rattle.std.specs.Char.{is_ascii_digit};
 ghost use Rattle.num_format_digits.specs.Digits.{HasNoOthers, HasOneSet, HasZero, IsZero, ascii_of, common_pairs};
 ghost use Rattle.num_format_digits.specs.Digits.{common_triples, in_digits, shown_byte};

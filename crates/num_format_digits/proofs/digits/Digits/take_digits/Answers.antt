@@ -1,5 +1,4 @@
-use Rattle.std.proofs.Common.{◌≡◌, ◌∙◌, refl, sym, true, false}
-use Rattle.std.specs.Prelude.{IsTrue}
+use Rattle.std.proofs.Common.{◌∙◌, refl, sym}
 use Rattle.num_format_digits.proofs.PlainLemmas.{nothing, plain_symbol}
 use Rattle.num_format_digits.proofs.TextLemmas.{copied_after}
 use Rattle.num_format_digits.proofs.digits.Digits.take_digits.Goals as goal
@@ -8,7 +7,7 @@ use Rattle.num_format_digits.proofs.digits.Digits.take_digits.Goals.{then-is_pla
 pub loop-left-init : goal.loop-left-init
 loop-left-init c =
     let run = c.take_run-len.ensures in
-    record { shown = run.shown c.args.text.now refl; plain = λ _. run.plain nothing; room = run.room; }
+    record { shown = run.shown c.args.text.now refl; plain = λ _. run.plain nothing; room = run.room }
 
 pub loop-left-preserved : goal.loop-left-preserved
 loop-left-preserved c =
@@ -19,8 +18,8 @@ loop-left-preserved c =
     let array = c.copy_symbol.new.array in
     let run = c.take_run.ensures in
     record {
-      shown = run.shown c.args.text.now
-          (copied_after c.args.self l.len n c.args.text.now left _ l.array array l.invariant.shown copy.copied (copy.same c.args.self) refl);
+      shown = run.shown c.args.text.now (copied_after c.args.self l.len n c.args.text.now left _ l.array array l.invariant.shown
+          copy.copied (copy.same c.args.self) refl);
       plain = elim c.if-is_plain.branch [
         | then-is_plain w ↦ λ is. run.plain (plain_symbol l.len n l.array array left copy.copied
             (l.invariant.plain w.if-is_plain.true) (copy.plain (sym w.is_plain-is ∙ is)))

@@ -1,4 +1,4 @@
-use Rattle.std.proofs.Common.{◌≡◌, ◌<◌, ◌∙◌, ◌++◌, ap, arith, length, sym}
+use Rattle.std.proofs.Common.{◌<◌, ◌∙◌, ◌++◌, ap, arith, length, sym}
 use Rattle.std.proofs.lemmas.List.{length-drop, length-set, take_rest}
 use Rattle.num_format_digits.specs.Digits.{shown_byte}
 use Rattle.num_format_digits.proofs.PlainLemmas.{plain_digit}

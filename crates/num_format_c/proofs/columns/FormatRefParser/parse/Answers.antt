@@ -1,5 +1,5 @@
 use Rattle.num_format_c.proofs.CallLemmas.{parsed_into}
-use Rattle.num_format_c.proofs.columns.HeldParser.parse.Goals as goal
+use Rattle.num_format_c.proofs.columns.FormatRefParser.parse.Goals as goal
 
 pub returns : goal.returns
 returns g c = λ s given.
