@@ -46,8 +46,11 @@ void *memset(void *to, int byte, size_t length) {
 /* The text of INT64_MIN. */
 #define LONG TEXT("-9,223,372,036,854,775,808")
 
-/* A number as fr prints it, with U+202F. */
-#define FRENCH "-1\xe2\x80\xaf" "234"
+/* Numbers as fr, de-CH, pl and sv print them, with U+202F, U+2019, U+00A0 and U+2212. */
+#define FRENCH "-1\u202f" "234"
+#define SWISS "1\u2019" "234"
+#define POLISH "12\u00a0" "345,67"
+#define SWEDISH "\u2212" "5,50"
 
 /* Of fa, where U+066C separates. */
 #define MINUS "\u200e\u2212"
@@ -60,7 +63,7 @@ void *memset(void *to, int byte, size_t length) {
 #define ADLM_DIGITS TEXT(MINUS "𞥑\u066c" "𞥒𞥓𞥔\u066c" "𞥕𞥖𞥗\u066c" "𞥘𞥙𞥐\u066b" "𞥑𞥒")
 #define ARABEXT_DECIMAL TEXT(MINUS "۱\u066c" "۲۳۴\u066b" "۵۰")
 
-static num_format en, fr, fa, arabext, deva, adlm, built, filled;
+static num_format en, fr, de_CH, pl, sv, fa, arabext, deva, adlm, built, filled;
 static char text[NUM_FORMAT_DECIMAL_MAX];
 static int64_t number;
 static uint64_t low, high;
@@ -152,10 +155,14 @@ static int strict_long(void) { return num_format_parse_strict_i64(&en, 64, LONG,
 static int strict_refused(void) { return num_format_parse_strict_i64(&en, 64, TEXT("1,23"), &number, &at); }
 static int strict_few(void) { return num_format_parse_strict_i64(&en, 64, TEXT("1,234"), &number, &at); }
 static int strict_french(void) { return num_format_parse_strict_i64(&fr, 64, TEXT(FRENCH), &number, &at); }
+static int strict_minus(void) { return num_format_parse_strict_i64(&en, 64, TEXT("-1,234"), &number, &at); }
+static int strict_swiss(void) { return num_format_parse_strict_i64(&de_CH, 64, TEXT(SWISS), &number, &at); }
 static int strict_persian(void) { return num_format_parse_strict_i64(&fa, 64, PERSIAN, &number, &at); }
 static int strict_arabext(void) { return num_format_parse_strict_i64(&arabext, 64, ARABEXT, &number, &at); }
 static int decimal(void) { return num_format_parse_decimal(&en, TEXT("1,234.50"), &low, &high, &scale, &at); }
 static int decimal_french(void) { return num_format_parse_decimal(&fr, TEXT(FRENCH ",50"), &low, &high, &scale, &at); }
+static int decimal_polish(void) { return num_format_parse_decimal(&pl, TEXT(POLISH), &low, &high, &scale, &at); }
+static int decimal_swedish(void) { return num_format_parse_decimal(&sv, TEXT(SWEDISH), &low, &high, &scale, &at); }
 static int typed_short(void) { return num_format_parse_typed(&en, NUM_FORMAT_I64, TEXT("-234"), &number, sizeof number, &at); }
 static int decimal_persian(void) { return num_format_parse_decimal(&fa, PERSIAN_DECIMAL, &low, &high, &scale, &at); }
 static int digits_fa(void) { return num_format_parse_decimal(&fa, PERSIAN_DIGITS, &low, &high, &scale, &at); }
@@ -166,6 +173,9 @@ static int decimal_arabext(void) { return num_format_parse_decimal(&arabext, ARA
 static int typed_long(void) { return num_format_parse_typed(&en, NUM_FORMAT_I64, LONG, &number, sizeof number, &at); }
 static int typed_plus(void) { return num_format_parse_typed(&en, NUM_FORMAT_I64, TEXT(" +1,234"), &number, sizeof number, &at); }
 static int typed_french(void) { return num_format_parse_typed(&fr, NUM_FORMAT_I64, TEXT("-1 234"), &number, sizeof number, &at); }
+static int typed_minus(void) { return num_format_parse_typed(&en, NUM_FORMAT_I64, TEXT("\u2212" "1,234"), &number, sizeof number, &at); }
+static int typed_swiss(void) { return num_format_parse_typed(&de_CH, NUM_FORMAT_I64, TEXT("1'234"), &number, sizeof number, &at); }
+static int typed_no_break(void) { return num_format_parse_typed(&fr, NUM_FORMAT_I64, TEXT("-1\u00a0" "234"), &number, sizeof number, &at); }
 static int typed_persian(void) { return num_format_parse_typed(&fa, NUM_FORMAT_I64, PERSIAN, &number, sizeof number, &at); }
 static int typed_arabext(void) { return num_format_parse_typed(&arabext, NUM_FORMAT_I64, ARABEXT, &number, sizeof number, &at); }
 static int typed_persian_plus(void) { return num_format_parse_typed(&fa, NUM_FORMAT_I64, TEXT("+1\u066c" "234"), &number, sizeof number, &at); }
@@ -173,6 +183,9 @@ static int typed_arabext_plus(void) { return num_format_parse_typed(&arabext, NU
 static int typed_decimal(void) { return num_format_parse_typed_decimal(&en, TEXT("1,234.50"), &low, &high, &scale, &at); }
 static int typed_decimal_plus(void) { return num_format_parse_typed_decimal(&en, TEXT(" +1,234.50"), &low, &high, &scale, &at); }
 static int typed_decimal_french(void) { return num_format_parse_typed_decimal(&fr, TEXT("-1 234,50"), &low, &high, &scale, &at); }
+static int typed_decimal_no_break(void) { return num_format_parse_typed_decimal(&fr, TEXT("-1\u00a0" "234,50"), &low, &high, &scale, &at); }
+static int typed_decimal_polish(void) { return num_format_parse_typed_decimal(&pl, TEXT("12 345,67"), &low, &high, &scale, &at); }
+static int typed_decimal_swedish(void) { return num_format_parse_typed_decimal(&sv, TEXT("-5,50"), &low, &high, &scale, &at); }
 static int typed_decimal_persian(void) { return num_format_parse_typed_decimal(&fa, PERSIAN_DECIMAL, &low, &high, &scale, &at); }
 static int typed_decimal_arabext(void) { return num_format_parse_typed_decimal(&arabext, ARABEXT_DECIMAL, &low, &high, &scale, &at); }
 static int typed_column(void) {
@@ -217,11 +230,15 @@ static const struct {
     {"parse strictly i64 INT64_MIN", strict_long, 0},
     {"parse strictly i64 1,23, refused", strict_refused, NUM_FORMAT_MISSPELLED},
     {"parse strictly i64 1,234", strict_few, 0},
+    {"parse strictly i64 -1,234", strict_minus, 0},
     {"parse strictly i64 -1 234, fr", strict_french, 0},
+    {"parse strictly i64 1'234, de-CH", strict_swiss, 0},
     {"parse strictly i64 INT64_MIN, fa", strict_persian, 0},
     {"parse strictly i64 INT64_MIN, fa, digits arabext", strict_arabext, 0},
     {"parse decimal 1,234.50", decimal, 0},
     {"parse decimal -1 234,50, fr", decimal_french, 0},
+    {"parse decimal 12 345,67, pl", decimal_polish, 0},
+    {"parse decimal -5,50, sv", decimal_swedish, 0},
     {"parse decimal -1,234.50, fa", decimal_persian, 0},
     {"parse decimal -1,234.50, fa, digits arabext", decimal_arabext, 0},
     FOUR("parse decimal of 12 digits, fa", digits),
@@ -231,7 +248,10 @@ static const struct {
     {"parse typed i64 -234", typed_short, 0},
     {"parse typed i64 INT64_MIN", typed_long, 0},
     {"parse typed i64 +1,234 after a space", typed_plus, 0},
+    {"parse typed i64 -1,234 with U+2212", typed_minus, 0},
     {"parse typed i64 -1 234, fr", typed_french, 0},
+    {"parse typed i64 -1 234 with U+00A0, fr", typed_no_break, 0},
+    {"parse typed i64 1'234, de-CH", typed_swiss, 0},
     {"parse typed i64 INT64_MIN, fa", typed_persian, 0},
     {"parse typed i64 INT64_MIN, fa, digits arabext", typed_arabext, 0},
     {"parse typed i64 +1,234, fa", typed_persian_plus, 0},
@@ -239,6 +259,9 @@ static const struct {
     {"parse typed decimal 1,234.50", typed_decimal, 0},
     {"parse typed decimal +1,234.50 after a space", typed_decimal_plus, 0},
     {"parse typed decimal -1 234,50, fr", typed_decimal_french, 0},
+    {"parse typed decimal -1 234,50 with U+00A0, fr", typed_decimal_no_break, 0},
+    {"parse typed decimal 12 345,67, pl", typed_decimal_polish, 0},
+    {"parse typed decimal -5,50, sv", typed_decimal_swedish, 0},
     {"parse typed decimal -1,234.50, fa", typed_decimal_persian, 0},
     {"parse typed decimal -1,234.50, fa, digits arabext", typed_decimal_arabext, 0},
     {"parse a column as typed, i64, 4 rows", typed_column, 0},
@@ -260,7 +283,9 @@ static int make(int (*call)(void), long times, int returned) {
 
 int main(int count, char **words) {
     if (num_format_locale(&en, TEXT("en")) != 0 || num_format_locale(&fr, TEXT("fr")) != 0 ||
-        num_format_locale(&fa, TEXT("fa")) != 0 || num_format_lookup(&arabext, TEXT("fa-u-nu-arabext")) != 0 ||
+        num_format_locale(&de_CH, TEXT("de-CH")) != 0 || num_format_locale(&pl, TEXT("pl")) != 0 ||
+        num_format_locale(&sv, TEXT("sv")) != 0 || num_format_locale(&fa, TEXT("fa")) != 0 ||
+        num_format_lookup(&arabext, TEXT("fa-u-nu-arabext")) != 0 ||
         num_format_lookup(&deva, TEXT("fa-u-nu-deva")) != 0 || num_format_lookup(&adlm, TEXT("fa-u-nu-adlm")) != 0 ||
         num_format_custom(&built, TEXT("’’·"), NUM_FORMAT_INDIAN, TEXT("−")) != 0 || print_column() != 0 ||
         print_columns() != 0)

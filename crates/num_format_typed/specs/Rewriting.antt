@@ -1,5 +1,6 @@
 -- Texts rewritten character by character.
-use Rattle.std.specs.Prelude.{if◌then◌else◌, ℕ, ◌+◌, ◌-◌, nat_le, Bool, List, [], ◌∷◌, encode_utf8, length, map}
+use Rattle.std.specs.Prelude.{◌≡◌, if◌then◌else◌, ℕ, ◌+◌, ◌-◌, ◌++◌, nat_le, Bool, List, [], ◌∷◌, encode_utf8, length, map, true}
+use Rattle.std.specs.Char.{is_ascii_digit}
 use Rattle.std.specs.List.{list_all}
 use Rattle.std.specs.Str.{chars, encode_utf8_all}
 
@@ -25,6 +26,14 @@ without_ends p t = without_end p (without_front p t)
 -- a text with the image of each character in its place
 abbrev pub images : (ℕ → ℕ) → List ℕ → List ℕ
 images image t = encode_utf8_all (map image (chars t))
+
+-- each digit is its own image
+abbrev pub KeepsDigits : (ℕ → ℕ) → Type 0
+KeepsDigits image = (c : ℕ) → is_ascii_digit c ≡ true → image c ≡ c
+
+-- the last byte of a text is a digit
+abbrev pub EndsInDigit : List ℕ → Type 0
+EndsInDigit t = (front : List ℕ) × (d : ℕ) × (t ≡ front ++ d ∷ []) × (is_ascii_digit d ≡ true)
 
 -- the bytes of the characters in front whose images take no more than so many bytes
 abbrev pub bytes_within : (ℕ → ℕ) → ℕ → List ℕ → ℕ

@@ -18,6 +18,7 @@ mod classes;
 pub mod laws;
 pub mod rewriting;
 pub mod typed;
+mod utf8;
 
 pub use typed::{
     TypedError, TypedParser, parse_typed, parse_typed_at_scale, parse_typed_bytes,

@@ -1,10 +1,11 @@
 //! Texts rewritten character by character into an array, and where a byte of the new text comes from.
-ghost use Rattle.std.specs.Prelude.{◌≡◌, ◌≤◌, ◌<◌, ◌++◌, ◌+◌, ℕ, [], ◌∷◌, IfSome, MatchOption, length, take};
-ghost use Rattle.std.specs.Prelude.{encode_utf8};
+ghost use Rattle.std.specs.Prelude.{◌≡◌, ◌≤◌, ◌<◌, ◌++◌, ◌+◌, ℕ, [], ◌∷◌, IfSome, IsTrue, MatchOption, length, take};
+ghost use Rattle.std.specs.Prelude.{encode_utf8, true};
+ghost use Rattle.std.specs.Char.{is_ascii_digit};
 ghost use Rattle.std.specs.Str.{chars, encode_utf8_all};
 ghost use Rattle.num_format_decimal.specs.declared.buffer.TheConstants.{MAX_DECIMAL_LEN};
 ghost use Rattle.num_format_typed.specs.Classes.{is_of};
-ghost use Rattle.num_format_typed.specs.Rewriting.{bytes_within, images, without_end, without_front};
+ghost use Rattle.num_format_typed.specs.Rewriting.{EndsInDigit, KeepsDigits, bytes_within, images, without_end, without_front};
 
 use crate::classes::Class;
 use num_format_decimal::MAX_DECIMAL_LEN;
@@ -17,10 +18,19 @@ pub trait Image {
     /// Returns what stands for a character.
     fn image(&self, c: char) -> char
         ensures { result ≡ image self.now c };
+
+    /// Returns whether each digit stands for itself. It may return `false` for any map.
+    #[inline(always)]
+    fn keeps_digits(&self) -> bool
+        ensures { IsTrue result → KeepsDigits (image self.now) }
+    {
+        false
+    }
 }
 
 /// Writes a prefix and the images of a text's characters after it to the start of an array, and returns these bytes, or
-/// `None` if they are more than the text of any number has.
+/// `None` if they are more than the text of any number has. Few have more than digits, which take no call.
+#[inline(always)]
 pub fn rewrite<'s, I: Image>(
     prefix: &str,
     text: &str,
@@ -32,14 +42,60 @@ pub fn rewrite<'s, I: Image>(
         (λ bytes. bytes.now ≡ prefix.now ++ images (I.image map.now) text.now) }
     ensures fits { IfSome result (λ bytes. length bytes.now ≤ MAX_DECIMAL_LEN) }
 {
-    let mut len = put(prefix.as_bytes(), 0, array)?;
-    let mut left = text;
+    let start = put(prefix.as_bytes(), 0, array)?;
+    let (mut len, mut left) = put_digits(text, map, start, array);
+    // One separator stands before most groups, so that the last image is kept.
+    let mut last = '\0';
+    let mut image = map.image(last);
     while let Some((c, rest)) = split_first(left) {
-        len = put_char(map.image(c), len, array)?;
-        left = rest;
+        image = image_after(last, image, c, map);
+        last = c;
+        let end = put_char(image, len, array)?;
+        (len, left) = put_digits(rest, map, end, array);
     }
     let written = &array[..];
     Some(&written[..len])
+}
+
+/// Returns the image of a character, where that of the last one is known.
+#[inline(always)]
+fn image_after<I: Image>(last: char, image: char, c: char, map: &I) -> char
+    requires { image ≡ I.image map.now last }
+    ensures { result ≡ I.image map.now c }
+{
+    if c == last { image } else { map.image(c) }
+}
+
+/// Writes the digits that a text begins with after so many bytes of an array, where they stand for themselves and as
+/// far as they fit. Returns the number of bytes then, and what is left of the text.
+#[inline(always)]
+fn put_digits<'t, I: Image>(
+    text: &'t str,
+    map: &I,
+    len: usize,
+    array: &mut [u8],
+) -> (usize, &'t str)
+    requires { len ≤ length array.old }
+    ensures text { take result.0 array.new ++ images (I.image map.now) result.1.now
+        ≡ take len array.old ++ images (I.image map.now) text.now }
+    ensures within { result.0 ≤ length array.new }
+    ensures length { length array.new ≡ length array.old }
+    ensures bound { length result.1.now ≤ length text.now }
+{
+    let mut end = len;
+    let mut left = text;
+    if !map.keeps_digits() {
+        return (end, left);
+    }
+    while let Some((digit, rest)) = split_digit(left) {
+        if end == array.len() {
+            return (end, left);
+        }
+        array[end] = digit;
+        end += 1;
+        left = rest;
+    }
+    (end, left)
 }
 
 /// Writes a character after so many bytes of an array, and returns their number then, or `None` if it does not fit.
@@ -109,6 +165,18 @@ pub fn split_first(text: &str) -> Option<(char, &str)>
     Some((first, chars.as_str()))
 }
 
+/// Returns the digit that a text begins with, and what follows it.
+#[inline(always)]
+fn split_digit(text: &str) -> Option<(u8, &str)>
+    ensures { IfSome result (λ parts. (text.now ≡ parts.0 ∷ parts.1.now) × (is_ascii_digit parts.0 ≡ true)) }
+{
+    let (first, _) = text.as_bytes().split_first()?;
+    if !first.is_ascii_digit() {
+        return None;
+    }
+    Some((*first, &text[1..]))
+}
+
 /// Returns what stands before the last character of a text, and that character.
 #[inline]
 fn split_last(text: &str) -> Option<(&str, char)>
@@ -141,9 +209,31 @@ pub fn without_front(text: &str, class: Class) -> &str
     left
 }
 
-/// Returns a text without the characters of a class at its end.
-#[inline]
+/// Returns a text without the characters of a class at its end. Most end in a digit, which is of none.
+#[inline(always)]
 pub fn without_end(text: &str, class: Class) -> &str
+    ensures value { result.now ≡ without_end (is_of class) text.now }
+    ensures bound { length result.now ≤ length text.now }
+{
+    if ends_in_digit(text) {
+        return text;
+    }
+    trimmed_end(text, class)
+}
+
+/// Returns whether a text ends in a digit.
+#[inline(always)]
+fn ends_in_digit(text: &str) -> bool
+    ensures { IsTrue result → EndsInDigit text.now }
+{
+    match text.as_bytes().split_last() {
+        Some((last, _)) => last.is_ascii_digit(),
+        None => false,
+    }
+}
+
+/// Does the same for any text.
+fn trimmed_end(text: &str, class: Class) -> &str
     ensures value { result.now ≡ without_end (is_of class) text.now }
     ensures bound { length result.now ≤ length text.now }
 {

@@ -17,14 +17,15 @@ ghost use Rattle.num_format_typed.specs.Typed.{HasUsualSymbols, IsTypable, Parse
 ghost use Rattle.num_format_typed.specs.Typed.{TypedAtScaleResult, TypedDecimalResult, ascii_separators, at_any_scale};
 ghost use Rattle.num_format_typed.specs.Typed.{begins_with, body_of, core_of, has_class, has_minus, has_shared};
 ghost use Rattle.num_format_typed.specs.Typed.{is_nonzero_digit, is_own, is_shared_in, own_char, place_in, placed};
-ghost use Rattle.num_format_typed.specs.Typed.{placed, put, separator_of, sign_of, trimmed, typed_message_of};
+ghost use Rattle.num_format_typed.specs.Typed.{put, separator_of, sign_of, trimmed, typed_message_of};
 ghost use Rattle.num_format_typed.specs.Typed.{typed_text, unsigned, usual_marks, usual_separators, usual_signs};
 ghost use Rattle.num_format_typed.specs.Typed.{usual_spaces};
 
 use crate::classes::Class;
 use crate::rewriting::{Image, bytes_within, rewrite, split_first, without_end, without_front};
+use crate::utf8::text_of;
 use num_format_decimal::{Decimal, DecimalParser, MAX_DECIMAL_LEN, ParseAtScaleError, Rounding};
-use num_format_parsing::bytes::{is_prefix, is_utf8};
+use num_format_parsing::bytes::is_prefix;
 use num_format_parsing::{FromFormattedStr, StrictError, StrictParser};
 use num_format_text::Format;
 use std::fmt;
@@ -73,6 +74,11 @@ impl<'a> Image for Symbols<'a> {
             return own;
         }
         first_of(self.mark, class).unwrap_or(c)
+    }
+
+    #[inline(always)]
+    fn keeps_digits(&self) -> bool {
+        true
     }
 }
 
@@ -325,7 +331,7 @@ impl<'a, F: Format> Rewriter<'a, F> {
         };
         match self.numbers().parse_bytes(typed) {
             Ok(number) => Ok(number),
-            Err(error) => Err(TypedError::Number(self.placed(text, error))),
+            Err(error) => Err(TypedError::Number(Rewriter::placed(self.format(), text, error))),
         }
     }
 
@@ -385,7 +391,7 @@ impl<'a, F: Format> Rewriter<'a, F> {
         };
         match decimals.parse_bytes(typed) {
             Ok(decimal) => Ok(decimal),
-            Err(error) => Err(TypedError::Number(self.placed(text, error))),
+            Err(error) => Err(TypedError::Number(Rewriter::placed(self.format(), text, error))),
         }
     }
 
@@ -437,21 +443,17 @@ impl<'a, F: Format> Rewriter<'a, F> {
         }
     }
 
-    /// Returns the bytes that a typed text stands for, or `None` if they are too many. Where no character changes, they
-    /// are those of the text, and are else written to the start of the array.
+    /// Writes the bytes that a typed text stands for to the start of an array, and returns them, or `None` if they are
+    /// too many.
     #[inline(always)]
-    fn rewrite<'s>(&self, text: &'s str, array: &'s mut [u8]) -> Option<&'s [u8]>
+    fn rewrite<'s>(&self, text: &str, array: &'s mut [u8]) -> Option<&'s [u8]>
         requires { length array.old ≡ MAX_DECIMAL_LEN }
         ensures text { MatchOption result (MAX_DECIMAL_LEN < length (typed_text self.now text.now))
             (λ typed. typed.now ≡ typed_text self.now text.now) }
         ensures fits { IfSome result (λ typed. length typed.now ≤ MAX_DECIMAL_LEN) }
     {
         let (sign, body) = self.sign_and_body(without_ends(text, Class::End));
-        let symbols = self.symbols();
-        if sign.is_empty() && body.len() <= MAX_DECIMAL_LEN && symbols.are_own(body) {
-            return Some(body.as_bytes());
-        }
-        rewrite(sign, body, &symbols, array)
+        rewrite(sign, body, &self.symbols(), array)
     }
 
     /// Returns the sign of what a trimmed text stands for, and what follows the sign of the text.
@@ -498,14 +500,17 @@ impl<'a, F: Format> Rewriter<'a, F> {
         (false, text)
     }
 
-    /// Returns an error with its place in the text that was given.
+    /// Returns an error with its place in the text that was given. The rewriter is its own, so that the caller's stays in
+    /// registers.
     #[cold]
-    fn placed(&self, text: &str, error: StrictError) -> StrictError
-        ensures { result ≡ placed (place_in self.now text.now) error }
+    #[inline(never)]
+    fn placed(format: &'a F, text: &str, error: StrictError) -> StrictError
+        requires { IsTypable (F.answers format.now) }
+        ensures { result ≡ placed (place_in (F.answers format.now) text.now) error }
     {
         match error {
             StrictError::Unexpected { at } => StrictError::Unexpected {
-                at: self.place(text, at),
+                at: Rewriter::typable(format).place(text, at),
             },
             _ => error,
         }
@@ -747,16 +752,6 @@ fn is_hyphen(text: &str) -> bool
     ensures { IsTrue result → text.now ≡ codes "-" }
 {
     matches!(*text.as_bytes(), [b'-'])
-}
-
-/// Returns the text of the bytes, if they are UTF-8.
-fn text_of(bytes: &[u8]) -> Option<&str>
-    ensures { MatchOption result (¬ (IsUtf8 bytes.now)) (λ text. text.now ≡ bytes.now) }
-{
-    if !is_utf8(bytes, false) {
-        return None;
-    }
-    Some(unsafe { str::from_utf8_unchecked(bytes) })
 }
 
 /// Returns whether a text has a digit 1 to 9.

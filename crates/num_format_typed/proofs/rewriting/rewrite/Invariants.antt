@@ -12,6 +12,7 @@ invariant-loop-c g l =
     × (l.prefix ++ images (g.I.Image.image l.map) l.text ≡ take l.len l.array ++ images (g.I.Image.image l.map) l.left)
     × (l.len ≤ length l.array)
     × (length l.array ≡ MAX_DECIMAL_LEN)
+    × (l.image ≡ g.I.Image.image l.map l.last)
 
 abbrev pub decreases-loop-c : goal.decreases-loop-c
 decreases-loop-c g l = length l.left

@@ -4,7 +4,7 @@ use denote.Shadow.{shadow}
 use denote.Text.{Utf8}
 use Rattle.num_format_typed.specs.Classes.{is_of}
 use Rattle.num_format_typed.specs.Rewriting.{trim_end}
-use Rattle.num_format_typed.proofs.rewriting.without_end.Given as goal
+use Rattle.num_format_typed.proofs.rewriting.trimmed_end.Given as goal
 
 -- what is left ends where the text does, once it is trimmed
 abbrev pub invariant-loop-rest : goal.invariant-loop-rest

@@ -1,0 +1,18 @@
+use Rattle.std.proofs.Common.{◌++◌, rules, arith, take}
+use Rattle.num_format_typed.specs.Rewriting.{images}
+use Rattle.num_format_typed.proofs.DigitLemmas.{digit-written}
+use Rattle.num_format_typed.proofs.rewriting.put_digits.Goals as goal
+
+pub loop-digit-preserved : goal.loop-digit-preserved
+loop-digit-preserved g c =
+    let image = g.I.Image.image c.args.map.now in
+    let so_far = c.loop-digit.invariant in
+    let first = c.in-Some.ensures in (
+      search rules,
+      digit-written image c.loop-digit.array (take c.args.len c.args.array.now ++ images image c.args.text.now) c.loop-digit.left.now
+          c.in-Some.rest.now c.loop-digit.end c.in-Some.digit (c.keeps_digits.ensures c.if-not-keeps_digits.false) so_far.0
+          (omega arith) first.0 first.1 so_far.1,
+      search rules,
+      search rules,
+      search rules,
+    )
