@@ -145,7 +145,7 @@ module _ (f : FormatData) (utf8 : HasUtf8Texts f) where
               let fits = (fits-Decides (denoted f t)).0 parts.1 in
               rw both (canonical-none marks (λ d bound is_canonical. refused d (record {
                 unambiguous = marks;
-                canonical_value = is_canonical;
+                canonical = is_canonical;
                 bound = bound;
                 fits = subst (FitsSigned w128) (units marks d is_canonical) fits;
               })))

@@ -34,7 +34,7 @@ pub enum RegroupFault {
     Field(u64, u64, Error),
     /// In the record that begins in the line of this number, a quote is not closed.
     Unclosed(u64),
-    /// A write failed, also one that was interrupted, or wrote no bytes.
+    /// A write failed, also one that was interrupted, or wrote no bytes, or had no memory for what it was to write.
     Write,
     /// A write of a message that names a fault failed, also one that was interrupted, or wrote no bytes.
     Report,

@@ -117,9 +117,8 @@ pub use Rattle.num_format_decimal.specs.Parsing.{DecimalResult, IsDecimalCause, 
 pub use Rattle.num_format_decimal.specs.Parsing.{IsNotCanonical}
 pub use Rattle.num_format_decimal.specs.Parsing.{unexpected_in_decimal, with_separators, without_separators}
 pub use Rattle.num_format_parsing.specs.declared.error.StrictError.{StrictError}
-pub use Rattle.regroup_lines.specs.Csv.{before_as, before_field, doubled, field_with, is_barred, is_opened, number_place, output_delimiter}
+pub use Rattle.regroup_lines.specs.Csv.{doubled, field_with, is_barred, is_opened, number_place, output_delimiter}
 pub use Rattle.regroup_lines.specs.Csv.{part_text, passed_as, quoted_len}
-pub use Rattle.regroup_lines.specs.Fields.{IsOnly, SendsBut, SendsIf, SentBut}
 pub use Rattle.regroup_lines.specs.declared.rules.FieldRange.{FieldRange}
 pub use Rattle.regroup_lines.specs.declared.rules.Fields.{Fields}
 pub use Rattle.regroup_lines.specs.declared.rules.Span.{Span}

@@ -2,7 +2,13 @@
 use Rattle.regroup_lines.proofs.Common.{Appends, doubled, list_any, nat_eq, List, Option, StopsWithin, StopsWithin_prefix}
 use Rattle.regroup_lines.proofs.Common.{StopsWithin_suffix, [], ap, arith, drop, drop-drop, drop_more, false, flat_map, flat_map-append}
 use Rattle.regroup_lines.proofs.Common.{get_or, is_opened, is_quote, length, length-drop, ne_eqb, quoted_len, refl, slice_range, subst, sym}
-use Rattle.regroup_lines.proofs.Common.{take, take-append-drop, take_rest, true, ℕ, ◌++◌, ◌+◌, ◌<◌, ◌∙◌, ◌∷◌, ◌≡◌, ◌≢◌, ◌≤◌}
+use Rattle.regroup_lines.proofs.Common.{take, take-append-drop, take_rest, true, ℕ, take_all, drop_all, append-nil, Decides-ltb, if◌then◌else◌, Some, Bool, nat_lt, passed_as, ◌&&◌, ◌-◌, ◌==◌, ◌++◌, ◌+◌, ◌<◌, ◌∙◌, ◌∷◌, ◌≡◌, ◌≢◌, ◌≤◌}
+use Rattle.std.specs.List.{slice_index}
+use Rattle.std.proofs.lemmas.List.Folds.{list_any_at}
+use Rattle.regroup_lines.specs.Adding.{Adds}
+use Rattle.regroup_lines.specs.Csv.{needs_quotes}
+use Rattle.regroup_lines.specs.Ended.{len_without}
+use Rattle.regroup_lines.specs.declared.rules.Output.{Output}
 
 -- how many bytes from a place on are before the quote that closes the field, by the next byte
 module _ (text : List ℕ) (at : ℕ) (low : at < length text) (so_far : quoted_len text ≡ at + quoted_len (drop at text)) where
@@ -57,9 +63,46 @@ doubled-none : (text : List ℕ) → list_any is_quote text ≡ false → double
 doubled-none [] none = refl
 doubled-none (b ∷ text) none = grind (arith, doubled-none text)
 
-module _ (text : List ℕ) (a b : Option (List ℕ)) (none : list_any (λ c. nat_eq c 34) text ≡ false) where
-  pub unquoted_prefix : StopsWithin a b text → StopsWithin a b (doubled text)
-  unquoted_prefix stops = subst (StopsWithin a b) (sym (doubled-none text none)) stops
+pub unquoted : (text : List ℕ) (a b : Option (List ℕ)) → list_any (λ c. nat_eq c 34) text ≡ false → Adds a b text → Adds a b (doubled text)
+unquoted text a b none adds = subst (Adds a b) (sym (doubled-none text none)) adds
 
-  pub unquoted_whole : Appends a b text → Appends a b (doubled text)
-  unquoted_whole sent = subst (Appends a b) (sym (doubled-none text none)) sent
+-- a field that needs no quotes is written as it is
+module _ (output : Output) (e : ℕ) where
+  abbrev needs : ℕ → Bool
+  needs = needs_quotes output.delimiter e
+
+  not_opened : (field : List ℕ) → list_any needs field ≡ false → is_opened field ≡ false
+  not_opened [] none = refl
+  not_opened (b ∷ field) none = grind arith
+
+  not_quoted : (field : List ℕ) → list_any needs field ≡ false → list_any is_quote field ≡ false
+  not_quoted [] none = refl
+  not_quoted (b ∷ field) none = grind (arith, not_quoted field)
+
+  not_returned : (field : List ℕ) → list_any needs field ≡ false → len_without 13 field ≡ length field
+  not_returned field none = by (nat_lt 0 (length field)) (slice_index field (length field - 1) == 13) refl refl
+    where
+      by : (some is : Bool) → nat_lt 0 (length field) ≡ some → (slice_index field (length field - 1) == 13) ≡ is
+          → (if some && is then length field - 1 else length field) ≡ length field
+      by false is low last = refl
+      by true false low last = refl
+      by true true low last =
+          let below : 0 < length field = (Decides-ltb 0 (length field)).0 low in
+          let any = list_any_at needs field (length field - 1) 0 (omega (arith, below)) (grind (arith, last)) in
+          absurd (cc)
+
+  pub unneeded : (quotes : Bool) (field : List ℕ) → list_any needs field ≡ false → passed_as (Some output) quotes e field ≡ field
+  unneeded quotes field none =
+      rw (
+        not_opened field none,
+        and_none quotes,
+        not_returned field none,
+        take_all (length field) field (omega arith),
+        none,
+        doubled-none field (not_quoted field none),
+        drop_all (length field) field (omega arith),
+      ) (append-nil field)
+    where
+      and_none : (x : Bool) → (x && false) ≡ false
+      and_none true = refl
+      and_none false = refl

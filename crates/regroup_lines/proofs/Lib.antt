@@ -1,4 +1,5 @@
 -- The proofs of this crate.
+mod AddLemmas
 mod ChoiceLemmas
 mod Common
 pub mod CsvLemmas
@@ -9,7 +10,6 @@ mod InputLemmas
 pub mod LineFaultLemmas
 mod LineLemmas
 mod LongLemmas
-mod MarkLemmas
 mod NumberedLemmas
 mod PlaceLemmas
 mod ProgressLemmas

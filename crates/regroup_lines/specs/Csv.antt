@@ -10,8 +10,8 @@ use Rattle.regroup_lines.specs.declared.rules.Fields.{Fields}
 use Rattle.regroup_lines.specs.declared.rules.Output.{Output}
 use Rattle.regroup_lines.specs.declared.rules.Quoting.{Quoting}
 use Rattle.regroup_lines.specs.declared.rules.Quoting.TheVariants.{Keep, Necessary}
-use Rattle.regroup_lines.specs.declared.sending.Part.{Part}
-use Rattle.regroup_lines.specs.declared.sending.Part.TheVariants.{Doubled, Plain}
+use Rattle.regroup_lines.specs.declared.line_text.Part.{Part}
+use Rattle.regroup_lines.specs.declared.line_text.Part.TheVariants.{Doubled, Plain}
 
 -- whether a field begins with a quote, and has one at the end of this place
 abbrev pub is_quoted : List ℕ → ℕ × ℕ → Bool
@@ -103,12 +103,3 @@ field_with fields line_end field (Some text) =
 -- the byte between two fields that are written
 abbrev pub output_delimiter : Fields → ℕ
 output_delimiter fields = unwrap_or (option_map (λ output. output.delimiter) fields.output) fields.delimiter
-
--- what is sent before a field, in place of the bytes since the last one that was sent: an output has its own delimiter
-abbrev pub before_as : Option Output → List ℕ → List ℕ
-before_as output [] = []
-before_as None (b ∷ passed) = b ∷ passed
-before_as (Some output) (b ∷ passed) = output.delimiter ∷ []
-
-abbrev pub before_field : Fields → List ℕ → List ℕ
-before_field fields passed = before_as fields.output passed

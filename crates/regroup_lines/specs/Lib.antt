@@ -1,4 +1,5 @@
 -- The definitions that the contracts of this crate use.
+pub mod Adding
 pub mod Csv
 pub mod Ended
 pub mod Fields

@@ -182,6 +182,10 @@ passes_mark span.Line number text = false
 passes_mark span.Trimmed number text = (number == 1) && begins_with_mark text
 passes_mark (span.Fields fields) number text = (number == 1) && begins_with_mark text
 
+-- how many bytes of a line are one that is passed on
+abbrev pub mark_len : Span → ℕ → List ℕ → ℕ
+mark_len span number text = if passes_mark span number text then length MARK else 0
+
 -- a header: each of its fields is one that is not chosen
 abbrev pub header_written : Span → (line_end : ℕ) → List ℕ → List ℕ
 header_written span.Line line_end text = text

@@ -53,10 +53,6 @@ least_of from next range = if is_at_most from range.last then Some (min (unwrap_
 abbrev pub next_of : Option Output → List FieldRange → (from : ℕ) → Option ℕ
 next_of output list from = if is_some output then Some from else fold (least_of from) None list
 
--- whether a range begins at the field of this number or before it
-abbrev pub is_begun : List FieldRange → ℕ → Bool
-is_begun list n = list_any (λ range. nat_le range.first n) list
-
 -- whether a line of so many fields has all that are wanted of it
 abbrev pub are_enough : List FieldRange → ℕ → Bool
 are_enough list count = list_all (is_enough count) list

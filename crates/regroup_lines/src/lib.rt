@@ -21,41 +21,46 @@ mod input;
 mod job;
 pub mod laws;
 mod line_fault;
+mod line_text;
 mod number;
 mod records;
 pub mod rules;
 mod sending;
 
-ghost use Rattle.std.specs.Prelude.{◌≡◌, ◌+◌, ◌++◌, [], ◌≤◌, Ok, length, true};
+ghost use Rattle.std.specs.Prelude.{◌≡◌, ◌+◌, ◌++◌, [], ◌≤◌, Ok, length, slice_range, take, true};
 ghost use Rattle.std.specs.Result.{result_map_both};
+ghost use Rattle.regroup_lines.specs.Adding.{AddsIf};
 ghost use Rattle.regroup_lines.specs.Ended.{ended_by, ends_with};
 ghost use Rattle.regroup_faults.specs.Fault.{are_any, fault_of};
 ghost use Rattle.regroup_lines.specs.Input.{IsEnded, IsLong, array_len, held};
 ghost use Rattle.regroup_lines.specs.LineFaults.{line_fault_of};
-ghost use Rattle.regroup_lines.specs.Lines.{MARK, after, body_written, fault_named, fault_sent, header_written};
-ghost use Rattle.regroup_lines.specs.Lines.{lenient, line_after, long_fault, passes_mark, place_written, quotes_in};
+ghost use Rattle.regroup_lines.specs.Lines.{after, body_written, fault_named, fault_sent, header_written};
+ghost use Rattle.regroup_lines.specs.Lines.{lenient, line_after, long_fault, place_written, quotes_in};
 ghost use Rattle.regroup_lines.specs.Lines.{record_sent, text_sent, unmarked_written};
 ghost use Rattle.regroup_lines.specs.Records.{after_text, line_reached};
 ghost use Rattle.regroup_faults.specs.Messages.{messages};
 ghost use Rattle.regroup_faults.specs.Notation.{latin};
 ghost use Rattle.regroup_lines.specs.Places.{place_of};
+ghost use Rattle.regroup_lines.specs.declared.rules.Span.TheVariants as span;
 ghost use Rattle.regroup_lines.specs.Sending.{Names, PassesLong, Regroups, RegroupsNaming, SendsBytes, SendsEach};
 ghost use Rattle.regroup_lines.specs.Sending.{SendsLine, by_writer};
 
-use crate::fields::regroup_fields;
+use crate::fields::append_fields;
 pub use crate::header::{Header, NameFault, field_named, read_header};
 use crate::input::{Input, Piece, Record};
 use crate::job::Job;
 use crate::line_fault::LineFault;
+use crate::line_text::LineText;
 use crate::number::Parser;
 use crate::records::{Within, ends_with, is_open, line_reached};
-use crate::rules::{MARK, trim};
+use crate::rules::trim;
 pub use crate::rules::{FieldRange, Fields, Invalid, Output, Quoting, Rules, Span};
 use crate::sending::{send_number, send_whole};
 use num_format::Format;
 use num_format::to_formatted_string::write_whole;
 use regroup_faults::fault_message;
 pub use regroup_faults::{FieldCount, Notation, Reading, RegroupFault};
+use std::alloc::Global;
 use std::io;
 use std::io::{Read, Write};
 use std::ops::Range;
@@ -128,6 +133,7 @@ pub fn regroup_lines<R: Read, W: Write, F: Format, G: Format>(
 {
     let mut buffer = [0; MAX_LINE_LEN + 1];
     let summary = regroup_at_most(
+        None,
         MAX_LINES,
         &LENIENT,
         "",
@@ -144,7 +150,8 @@ pub fn regroup_lines<R: Read, W: Write, F: Format, G: Format>(
 
 /// Regroups the lines of `r`, at most this many, as the rules say. The messages that name faults are sent to `e`, and
 /// have the name of the input. Lines at fault are sent to `x` in place of `w` if the rules say so. The input is read
-/// into `buffer`, which has one byte more than a line.
+/// into `buffer`, which has one byte more than a line. Where fields are chosen, the text of a line is made in memory of
+/// `alloc`, and sent with the byte that ends it by one write if that writes all of them.
 ///
 /// ```rust
 /// let rules = Rules {
@@ -162,6 +169,7 @@ pub fn regroup_lines<R: Read, W: Write, F: Format, G: Format>(
 /// let (mut reader, mut out) = ("amount\n1,000\n12x\n".as_bytes(), Vec::new(alloc));
 /// let (mut err, mut rejects) = (Vec::new(alloc), Vec::new(alloc));
 /// let summary = regroup_at_most(
+///     None,
 ///     9,
 ///     &rules,
 ///     "-",
@@ -187,9 +195,10 @@ pub fn regroup_lines<R: Read, W: Write, F: Format, G: Format>(
 /// many bytes as a record may have. [`Flush`](RegroupFault::Flush) is that a flush of `w` before a read failed, if the
 /// rules ask for flushes: as on `Read`, the writers received exactly the lines before, and what was read of a long line
 /// that is passed on. `x` is not flushed. Where fields are chosen, [`FewFields`](RegroupFault::FewFields) is that a
-/// line has too few, and [`FieldNotText`](RegroupFault::FieldNotText) and [`Field`](RegroupFault::Field) are in place
-/// of `NotText` and `Line`.
+/// line has too few, [`FieldNotText`](RegroupFault::FieldNotText) and [`Field`](RegroupFault::Field) are in place of
+/// `NotText` and `Line`, and `Write` is also that there is no memory for the text of a line.
 pub fn regroup_at_most<R: Read, W: Write, E: Write, X: Write, F: Format, G: Format>(
+    alloc: Option<Global>,
     most: u64,
     rules: &Rules,
     name: &str,
@@ -215,12 +224,13 @@ pub fn regroup_at_most<R: Read, W: Write, E: Write, X: Write, F: Format, G: Form
         to,
     };
     let mut input = Input::new(buffer);
+    let mut text = LineText::new(alloc);
     let (mut number, mut has_faults) = (1, false);
     for lines in 0..most {
         match input.next_piece(rules, Within::first(number), r, w)? {
             Piece::Line(place) => {
                 let line = input.line(place, number);
-                has_faults |= regroup_line(&job, &line, w, e, x)?;
+                has_faults |= regroup_line(&job, &line, &mut text, w, e, x)?;
                 number = line_after(rules, number, line.text);
             }
             Piece::Rest(place) => {
@@ -228,7 +238,7 @@ pub fn regroup_at_most<R: Read, W: Write, E: Write, X: Write, F: Format, G: Form
                 if line.text.is_empty() {
                     return Ok(Summary { lines, has_faults });
                 }
-                has_faults |= regroup_last(&job, &line, w, e, x)?;
+                has_faults |= regroup_last(&job, &line, &mut text, w, e, x)?;
                 let lines = lines + 1;
                 return Ok(Summary { lines, has_faults });
             }
@@ -280,6 +290,7 @@ fn long_fault(rules: &Rules, number: u64, input: &Input<'_>) -> RegroupFault
 fn regroup_last<'a, W: Write, E: Write, X: Write, F: Format, G: Format>(
     job: &Job<F, G>,
     line: &Record<'a>,
+    text: &mut LineText,
     w: &mut W,
     e: &mut E,
     x: &mut X,
@@ -295,7 +306,7 @@ fn regroup_last<'a, W: Write, E: Write, X: Write, F: Format, G: Format>(
         let ended = line.ended_once(job.rules.line_end, false);
         return pass_fault(job, LineFault::Unclosed(line.number), ended, w, e, x);
     }
-    regroup_line(job, line, w, e, x)
+    regroup_line(job, line, text, w, e, x)
 }
 
 /// Sends what is written in place of the text of a line, and the byte that ends it, and before them the message that
@@ -303,6 +314,7 @@ fn regroup_last<'a, W: Write, E: Write, X: Write, F: Format, G: Format>(
 fn regroup_line<'a, W: Write, E: Write, X: Write, F: Format, G: Format>(
     job: &Job<F, G>,
     line: &Record<'a>,
+    text: &mut LineText,
     w: &mut W,
     e: &mut E,
     x: &mut X,
@@ -314,7 +326,7 @@ fn regroup_line<'a, W: Write, E: Write, X: Write, F: Format, G: Format>(
         (by_writer (W.contents w.new) (E.contents e.new) (X.contents x.new))
         (result_map_both (λ told. told) line_fault_of result) }
 {
-    match regroup_body(job, line, w) {
+    match regroup_body(job, line, text, w) {
         Ok(()) => Ok(false),
         Err(fault) => match fault {
             LineFault::Write => Err(LineFault::Write),
@@ -470,9 +482,11 @@ fn pass_bytes<W: Write, X: Write>(
 
 /// Sends a line with its numbers regrouped, and the byte that ends it. A byte order mark, and the numbers of a header,
 /// are passed on.
+#[inline(always)]
 fn regroup_body<'a, W: Write, F: Format, G: Format>(
     job: &Job<F, G>,
     line: &Record<'a>,
+    text: &mut LineText,
     w: &mut W,
 ) -> Result<(), LineFault<'a>>
     requires { IsEnded job.now.rules.now.line_end line.now }
@@ -480,88 +494,62 @@ fn regroup_body<'a, W: Write, F: Format, G: Format>(
         job.now.to.now line.now.number line.now.text.now)
         (W.contents w.old) (W.contents w.new) (result_map_both (λ sent. sent) line_fault_of result) }
 {
-    if !job.rules.span.passes_mark(line.number, line.text) {
-        return regroup_numbers(job, line, w);
-    }
-    let rest = Record {
-        number: line.number,
-        text: &line.text[MARK.len()..],
-        ended: &line.ended[MARK.len()..],
-    };
-    regroup_marked(job, &rest, w)
-}
-
-/// Sends a byte order mark, and then the same of the rest of its line. It is a cold call, so that other lines are
-/// regrouped without its space.
-#[cold]
-#[inline(never)]
-fn regroup_marked<'a, W: Write, F: Format, G: Format>(
-    job: &Job<F, G>,
-    rest: &Record<'a>,
-    w: &mut W,
-) -> Result<(), LineFault<'a>>
-    requires { IsEnded job.now.rules.now.line_end rest.now }
-    ensures { SendsLine job.now.rules.now.line_end
-        (after MARK (unmarked_written job.now.rules.now job.now.parser job.now.to.now
-        rest.now.number rest.now.text.now))
-        (W.contents w.old) (W.contents w.new) (result_map_both (λ sent. sent) line_fault_of result) }
-{
-    // Of a line at fault nothing is sent, so it is read before the mark is sent.
-    regroup_numbers(job, rest, &mut io::sink())?;
-    match send_whole(&MARK, w) {
-        Ok(()) => regroup_numbers(job, rest, w),
-        Err(_) => Err(LineFault::Write),
-    }
-}
-
-/// Sends a header, and the byte that ends it. It has no number.
-#[cold]
-#[inline(never)]
-fn send_header<'a, W: Write, F: Format, G: Format>(
-    job: &Job<F, G>,
-    line: &Record<'a>,
-    w: &mut W,
-) -> Result<(), LineFault<'a>>
-    requires { IsEnded job.now.rules.now.line_end line.now }
-    ensures { SendsLine job.now.rules.now.line_end
-        (Ok (header_written job.now.rules.now.span job.now.rules.now.line_end line.now.text.now))
-        (W.contents w.old) (W.contents w.new) (result_map_both (λ sent. sent) line_fault_of result) }
-{
-    match &job.rules.span {
-        Span::Fields(fields) => {
-            let none = Fields {
-                list: &[],
-                ..*fields
-            };
-            regroup_fields(job, &none, line, w)
-        }
-        Span::Line | Span::Trimmed => send_whole(line.ended, w).or(Err(LineFault::Write)),
-    }
-}
-
-/// Sends a line with its numbers regrouped, or a header, and the byte that ends it.
-#[inline(always)]
-fn regroup_numbers<'a, W: Write, F: Format, G: Format>(
-    job: &Job<F, G>,
-    line: &Record<'a>,
-    w: &mut W,
-) -> Result<(), LineFault<'a>>
-    requires { IsEnded job.now.rules.now.line_end line.now }
-    ensures { SendsLine job.now.rules.now.line_end
-        (unmarked_written job.now.rules.now job.now.parser job.now.to.now
-        line.now.number line.now.text.now)
-        (W.contents w.old) (W.contents w.new) (result_map_both (λ sent. sent) line_fault_of result) }
-{
-    let (rules, text) = (job.rules, line.text);
-    if line.number <= rules.header_lines {
-        return send_header(job, line, w);
-    }
+    let rules = job.rules;
+    let mark_len = rules.span.mark_len(line.number, line.text);
+    let rest = &line.text[mark_len..];
     let place = match &rules.span {
-        Span::Trimmed => trim(text, 0..text.len()),
-        Span::Line => 0..text.len(),
-        Span::Fields(fields) => return regroup_fields(job, fields, line, w),
+        Span::Fields(fields) => {
+            text.restart(&line.text[..mark_len]);
+            append_body(job, fields, line.number, rest, text)?;
+            return text.send(rules.line_end, w);
+        }
+        Span::Line => 0..rest.len(),
+        Span::Trimmed => trim(rest, 0..rest.len()),
     };
+    if line.number <= rules.header_lines {
+        return send_whole(line.ended, w).or(Err(LineFault::Write));
+    }
+    let place = mark_len + place.start..mark_len + place.end;
     regroup_place(job, line, place, w)
+}
+
+/// Appends a line with the number in each chosen field regrouped, or a header.
+#[inline(always)]
+fn append_body<'a, F: Format, G: Format>(
+    job: &Job<F, G>,
+    fields: &Fields,
+    number: u64,
+    line: &'a [u8],
+    text: &mut LineText,
+) -> Result<(), LineFault<'a>>
+    requires { job.now.rules.now.span ≡ span.Fields fields.now }
+    ensures { AddsIf (unmarked_written job.now.rules.now job.now.parser job.now.to.now number line.now)
+        text.old text.new (result_map_both (λ added. added) line_fault_of result) }
+{
+    if number > job.rules.header_lines {
+        return append_fields(job, fields, number, line, text);
+    }
+    append_header(job, fields, number, line, text)
+}
+
+/// Appends a header. It has no number.
+#[cold]
+#[inline(never)]
+fn append_header<'a, F: Format, G: Format>(
+    job: &Job<F, G>,
+    fields: &Fields,
+    number: u64,
+    line: &'a [u8],
+    text: &mut LineText,
+) -> Result<(), LineFault<'a>>
+    ensures { AddsIf (Ok (header_written (span.Fields fields.now) job.now.rules.now.line_end line.now))
+        text.old text.new (result_map_both (λ added. added) line_fault_of result) }
+{
+    let none = Fields {
+        list: &[],
+        ..*fields
+    };
+    append_fields(job, &none, number, line, text)
 }
 
 /// Sends a line with the number at this place regrouped, and the byte that ends it.

@@ -1,7 +1,6 @@
 //! How the lines of an input are regrouped, and where the numbers of a line are.
 ghost use Rattle.std.specs.Prelude.{◌≡◌, ◌≤◌, length, true, None, IfSome};
-ghost use Rattle.regroup_lines.specs.Fields.{IsOnly};
-ghost use Rattle.regroup_lines.specs.Lines.{passes, passes_mark, quotes_in, quotes_of};
+ghost use Rattle.regroup_lines.specs.Lines.{mark_len, passes, quotes_in, quotes_of};
 ghost use Rattle.regroup_lines.specs.Places.{are_enough, field_count, is_at_most, is_chosen, least_of, next_of};
 ghost use Rattle.regroup_lines.specs.Places.{place_of, trimmed, wanted_of};
 
@@ -135,11 +134,16 @@ impl Invalid {
 }
 
 impl Span<'_> {
-    /// Returns whether the line of this number begins with a byte order mark that is not part of it.
-    pub(crate) fn passes_mark(&self, number: u64, text: &[u8]) -> bool
-        ensures { result ≡ passes_mark self.now number text.now }
+    /// Returns how many bytes of the line of this number are a byte order mark that is not part of it.
+    pub(crate) fn mark_len(&self, number: u64, text: &[u8]) -> usize
+        ensures value { result ≡ mark_len self.now number text.now }
+        ensures within { result ≤ length text.now }
     {
-        !matches!(self, Span::Line) && number == 1 && text.starts_with(&MARK)
+        if !matches!(self, Span::Line) && number == 1 && text.starts_with(&MARK) {
+            MARK.len()
+        } else {
+            0
+        }
     }
 }
 
@@ -203,13 +207,6 @@ impl Fields<'_> {
         ensures { result ≡ quotes_of self.now }
     {
         (self.quotes && self.delimiter != QUOTE).then_some(self.delimiter)
-    }
-
-    /// Returns whether at most one field has a number, and all other bytes are passed on.
-    pub(crate) fn are_single(&self) -> bool
-        ensures { result ≡ true → IsOnly self.now }
-    {
-        matches!(self.list, [range] if range.last == Some(range.first)) && self.output.is_none()
     }
 
     /// Returns whether the field of this number has a number.

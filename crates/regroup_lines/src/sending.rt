@@ -3,10 +3,8 @@ ghost use Rattle.std.specs.Prelude.{◌<◌, ◌++◌, length};
 ghost use Rattle.std.specs.List.{flat_map};
 ghost use Rattle.num_format.specs.Writing.{Sends};
 ghost use Rattle.regroup_faults.specs.Notation.{number_text};
-ghost use Rattle.regroup_lines.specs.Csv.{doubled, part_text};
 ghost use Rattle.regroup_lines.specs.Ended.{ended_by};
 
-use crate::rules::QUOTE;
 use arrayvec::ArrayVec;
 use num_format::Format;
 use num_format::to_formatted_string::write_whole;
@@ -28,49 +26,13 @@ const MAX_SHOWN_LINE_LEN: usize = MAX_DIGIT_TEXT_LEN + 1;
 #[derive(Clone, Copy)]
 pub(crate) struct Unsent;
 
-/// A part of a text.
-#[derive(Clone, Copy)]
-pub(crate) enum Part<'a> {
-    /// These bytes.
-    Plain(&'a [u8]),
-    /// These bytes, with each quote doubled.
-    Doubled(&'a [u8]),
-}
-
 /// Sends the parts of a text in turn.
 #[inline(always)]
-pub(crate) fn send_all<W: Write>(parts: &[Part<'_>], w: &mut W) -> Result<(), Unsent>
-    ensures { Sends result (W.contents w.old) (W.contents w.new) (flat_map part_text parts.now) }
+fn send_all<W: Write>(parts: &[&[u8]], w: &mut W) -> Result<(), Unsent>
+    ensures { Sends result (W.contents w.old) (W.contents w.new) (flat_map (λ part. part.now) parts.now) }
 {
     for part in parts {
-        send_part(part, w)?;
-    }
-    Ok(())
-}
-
-/// Sends a part of a text.
-#[inline(always)]
-fn send_part<W: Write>(part: &Part<'_>, w: &mut W) -> Result<(), Unsent>
-    ensures { Sends result (W.contents w.old) (W.contents w.new) (part_text part.now) }
-{
-    match part {
-        Part::Plain(text) => send_whole(text, w),
-        Part::Doubled(text) => send_doubled(text, w),
-    }
-}
-
-/// Sends a text with each quote doubled.
-#[tactic(auto, using(crate::proofs::CsvLemmas::unquoted_prefix, crate::proofs::CsvLemmas::unquoted_whole))]
-fn send_doubled<W: Write>(text: &[u8], w: &mut W) -> Result<(), Unsent>
-    ensures { Sends result (W.contents w.old) (W.contents w.new) (doubled text.now) }
-{
-    if !text.contains(&QUOTE) {
-        return send_whole(text, w);
-    }
-    for byte in text {
-        let twice = [*byte, *byte];
-        let len = if *byte == QUOTE { 2 } else { 1 };
-        send_whole(&twice[..len], w)?;
+        send_whole(part, w)?;
     }
     Ok(())
 }
@@ -150,13 +112,7 @@ fn send_around<'a, W: Write>(
     ensures { Sends result (W.contents w.old) (W.contents w.new)
         (ended_by line_end (before.now ++ (number.now ++ after.now))) }
 {
-    let parts = [
-        Part::Plain(before),
-        Part::Plain(number.as_bytes()),
-        Part::Plain(after),
-        Part::Plain(&[line_end]),
-    ];
-    send_all(&parts, w)
+    send_all(&[before, number.as_bytes(), after, &[line_end]], w)
 }
 
 /// Sends a number and the byte that ends its line, by one write if that writes both: so no other process writes between

@@ -40,10 +40,10 @@ delimiter_of csv (Some text) = delimiter_given csv text.now
 abbrev pub line_end_of : Options → ℕ
 line_end_of options = if options.zero_terminated then 0 else 10
 
--- a delimiter that may be written, by what it would be: no quote, nor what ends lines
+-- a delimiter that may be written, by what it would be: no quote, nor what ends lines, as a carriage return may
 abbrev pub output_delimiter_in : (line_end : ℕ) → Option ℕ → Result ℕ OptionFault
 output_delimiter_in line_end None = Err LongOutputDelimiter
-output_delimiter_in line_end (Some byte) = if byte == 34 || byte == line_end then Err BarredOutputDelimiter else Ok byte
+output_delimiter_in line_end (Some byte) = if byte == 34 || (byte == 13 || byte == line_end) then Err BarredOutputDelimiter else Ok byte
 
 -- the same of what a text names
 abbrev pub output_delimiter_named : Options → List ℕ → Result ℕ OptionFault

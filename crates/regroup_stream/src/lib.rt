@@ -51,6 +51,7 @@ use num_format::CustomFormat;
 use regroup_faults::fault_message;
 pub use regroup_lines::{FieldRange, Fields, Invalid, Output, Quoting, Reading, Rules, Span};
 use regroup_lines::{Notation, RegroupFault, Summary, regroup_at_most};
+use std::alloc::Global;
 use std::io::{BufWriter, ErrorKind, Read, Write};
 
 /// Regroups the lines of `input` from one format to another, flushes `out` and `rejects`, and returns the exit status.
@@ -86,11 +87,12 @@ use std::io::{BufWriter, ErrorKind, Read, Write};
 /// let mut rejects = BufWriter::new(alloc, Vec::new(alloc))?;
 /// let mut err = Vec::new(alloc);
 /// let mut buffer = [0; 100];
-/// run(&rules, &formats, "-", &mut buffer, "1,000\nx\n".as_bytes(), &mut out, &mut err, &mut rejects)    // 0
+/// run(alloc, &rules, &formats, "-", &mut buffer, "1,000\nx\n".as_bytes(), &mut out, &mut err, &mut rejects)    // 0
 /// str::from_utf8(out.get_ref())        // Ok("1.000\n")
 /// str::from_utf8(rejects.get_ref())    // Ok("x\n")
 /// ```
 pub fn run<R: Read + Drop, O: Write + Drop, E: Write, X: Write + Drop>(
+    alloc: Global,
     rules: &Rules,
     formats: &Formats,
     name: &str,
@@ -106,7 +108,7 @@ pub fn run<R: Read + Drop, O: Write + Drop, E: Write, X: Write + Drop>(
         (by_writer (writer_contents O.contents out.new) (E.contents err.new) (writer_contents X.contents rejects.new))
         (by_writer (writer_buffer out.new) [] (writer_buffer rejects.new)) }
 {
-    regroup(rules, formats, name, buffer, input, out, err, rejects).finish(name, err)
+    regroup(alloc, rules, formats, name, buffer, input, out, err, rejects).finish(name, err)
 }
 
 /// Sends the message of an input that cannot be opened, and returns the status: [`FAULTY`], or [`FAILED`] if not all
@@ -138,6 +140,7 @@ pub fn refuse_output<E: Write>(name: &str, err: &mut E) -> u8
 
 /// Regroups the lines, flushes `out` and `rejects`, and returns how that ends.
 fn regroup<R: Read + Drop, O: Write + Drop, E: Write, X: Write + Drop>(
+    alloc: Global,
     rules: &Rules,
     formats: &Formats,
     name: &str,
@@ -157,6 +160,7 @@ fn regroup<R: Read + Drop, O: Write + Drop, E: Write, X: Write + Drop>(
     let from = formats.from.notation();
     let to = formats.to.notation();
     let regrouped = regroup_at_most(
+        Some(alloc),
         u64::MAX,
         rules,
         name,

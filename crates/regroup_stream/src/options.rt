@@ -69,7 +69,7 @@ pub enum OptionFault {
     QuoteDelimiter,
     /// The delimiter that is written is not one ASCII character.
     LongOutputDelimiter,
-    /// The delimiter that is written is a quote, or ends lines.
+    /// The delimiter that is written is a quote, or ends lines, as a carriage return may.
     BarredOutputDelimiter,
     /// A line at fault ends the run, so that none would be written to the file of such lines.
     AbortingRejects,
@@ -147,7 +147,7 @@ impl<'a> Options<'a, '_> {
         ensures { result ≡ output_delimiter_named self.now text.now }
     {
         let delimiter = delimiter_named(text).ok_or(OptionFault::LongOutputDelimiter)?;
-        if delimiter == b'"' || delimiter == self.line_end() {
+        if matches!(delimiter, b'"' | b'\r') || delimiter == self.line_end() {
             return Err(OptionFault::BarredOutputDelimiter);
         }
         Ok(delimiter)

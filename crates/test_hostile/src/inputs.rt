@@ -38,6 +38,7 @@ fn at_most<R: io::Read, W: io::Write>(
         ..RULES
     };
     regroup_at_most(
+        None,
         lines,
         &rules,
         "-",

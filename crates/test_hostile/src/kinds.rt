@@ -4,8 +4,9 @@ use crate::ReadStep::Give;
 use crate::rules::RULES;
 use crate::{ReadStep, Scripted, ScriptedReader};
 use num_format::{CustomFormat, Format, Grouping, Locale};
-use regroup_lines::{FieldRange, Fields, Invalid, Notation, Rules, Span, regroup_at_most};
+use regroup_lines::{FieldRange, Fields, Invalid, Notation, RegroupFault, Rules, Span, regroup_at_most};
 use std::alloc::Global;
+use std::io;
 use std::process::Abort;
 use std::test::Fail;
 
@@ -52,15 +53,15 @@ const KINDS: [Kind<'static>; 18] = [
     (PLAIN, b"1,000\n1,000", b"1.000\n1.000\n", [2, 0, 0]),
     // What is before a number, the number, what is after it, and the end.
     (PLAIN, b" 1,000 \n", b" 1.000 \n", [4, 0, 0]),
-    (PLAIN, b"\xef\xbb\xbf1,000\n", b"\xef\xbb\xbf1.000\n", [2, 0, 0]),
+    (PLAIN, b"\xef\xbb\xbf1,000\n", b"\xef\xbb\xbf1.000\n", [3, 0, 0]),
     (Rules { header_lines: 2, ..PLAIN }, b"the amount\nEUR\n5\n", b"the amount\nEUR\n5\n", [3, 0, 0]),
     (Rules { passes_empty: true, ..PLAIN }, b"\n  \n5\n", b"\n  \n5\n", [3, 0, 0]),
     (IGNORED, b"12x\n1,000\ny", b"12x\n1.000\ny\n", [3, 0, 0]),
     (WARNED, b"12x\n1,000\ny", b"12x\n1.000\ny\n", [3, 2, 0]),
     (Rules { rejects: true, ..WARNED }, b"12x\n1,000\ny", b"1.000\n", [1, 2, 2]),
-    // What is before a number, the number, and the rest.
-    (FIELDS, b"a,\"1,000\",b\n", b"a,\"1.000\",b\n", [3, 0, 0]),
-    (FIELDS, b"\"a\nb\",1000\n", b"\"a\nb\",1.000\n", [3, 0, 0]),
+    // Each line whose fields are chosen by one write.
+    (FIELDS, b"a,\"1,000\",b\n", b"a,\"1.000\",b\n", [1, 0, 0]),
+    (FIELDS, b"\"a\nb\",1000\n", b"\"a\nb\",1.000\n", [1, 0, 0]),
     (FIELDS, b"\"a\nb\",x\na\n\"c\n", b"\"a\nb\",x\na\n\"c\n", [3, 0, 0]),
     // In parts of nine bytes.
     (Rules { max_line_len: 8, ..IGNORED }, b"1234567890123456789012\n7\n", b"1234567890123456789012\n7\n", [4, 0, 0]),
@@ -86,6 +87,7 @@ fn assert_kind<G: Format>(
     let mut rejects = Scripted::new(alloc, 64, &[])?;
     let mut buffer = vec![in alloc; 0; rules.max_line_len as usize + 1]?;
     let result = regroup_at_most(
+        Some(alloc),
         9,
         rules,
         "-",
@@ -141,4 +143,27 @@ fn a_line_of_a_thousand_parts(rt: HostRuntime) -> Result<(), Fail> {
     line.push('\n')?;
     let kind: Kind<'_> = (rules, line.as_bytes(), line.as_bytes(), [1001, 0, 0]);
     assert_kind(&rt, rt.alloc(), &kind, &[], &Locale::de)
+}
+
+/// Where there is no memory for the text of a line of fields, it is not sent. A fault of the line comes first.
+#[test]
+fn a_line_without_memory(rt: HostRuntime) -> Result<(), Fail> {
+    let mut out = Scripted::new(rt.alloc(), 64, &[])?;
+    let mut buffer = vec![in rt.alloc(); 0; FIELDS.max_line_len as usize + 1]?;
+    let result = regroup_at_most(
+        None,
+        9,
+        &FIELDS,
+        "-",
+        &mut buffer,
+        &mut "a,x\nb,1000\n".as_bytes(),
+        &mut out,
+        &mut io::sink(),
+        &mut io::sink(),
+        &Notation::latin(&Locale::en),
+        &Notation::latin(&Locale::de),
+    );
+    assert_eq!(rt; result, Err(RegroupFault::Write));
+    assert_eq!(rt; out.received.as_slice(), b"a,x\n".as_slice());
+    Ok(())
 }

@@ -99,6 +99,7 @@ fn assert_run(rt: &impl Abort, alloc: Global, case: &Case<'_>) -> Result<(), Fai
     let mut buffer = [0; 100];
     let input = reader(case);
     let status = run(
+        alloc,
         &LENIENT,
         &formats,
         "-",

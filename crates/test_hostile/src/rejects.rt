@@ -44,6 +44,7 @@ fn assert_ended(
     let mut buffer = vec![in alloc; 0; rules.max_line_len as usize + 1]?;
     let mut reader = INPUT;
     let result = regroup_at_most(
+        None,
         9,
         rules,
         "-",

@@ -40,6 +40,7 @@ fn run_plainly<R: Read + Drop, O: Write + Drop, E: Write>(
     let mut rejects = BufWriter::new(alloc, io::sink())?;
     let mut buffer = [0; 100];
     let status = run(
+        alloc,
         &STRICT,
         &to_de(),
         "-",
@@ -158,6 +159,7 @@ fn assert_unrejected<X: Write + Drop>(
     let mut buffer = [0; 100];
     let text = b"1,000\nx\n".as_slice();
     let status = run(
+        alloc,
         &rules,
         &to_de(),
         "-",
