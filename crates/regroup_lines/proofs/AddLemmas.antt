@@ -1,14 +1,13 @@
 -- What is appended to the text of a line.
-use Rattle.num_format.proofs.WritingLemmas.{StopsWithin-none}
-use Rattle.regroup_lines.proofs.Common.{ℕ, List, [], ◌∷◌, ◌++◌, Option, None, Some, Result, Ok, Err, refl, sym, ap, ◌∙◌, ◌≡◌, subst, ◌<◌}
-use Rattle.regroup_lines.proofs.Common.{append-nil, append_assoc, arith, after, ended_by, Fault, Write, Appends, Sends, SendsLine, length}
-use Rattle.regroup_lines.proofs.Common.{length-append, StopsWithin, Rules, Span, NotationData, take, drop, MARK, begins_with_mark, passes_mark}
-use Rattle.regroup_lines.proofs.Common.{body_written, unmarked_written, Bool, false, slice_range, take-add, take-append-drop, take_rest, drop-drop, eq-eqb, eqb-true, ne_eqb, if◌then◌else◌, between, number_written, place_written, ◌==◌, ◌-◌, ◌&&◌, flat_map, flat_map-append, get_or, take_more, ◌+◌, true, result_map_both, result_or, line_fault_of}
+use Rattle.regroup_lines.proofs.Common.{ℕ, List, [], ◌++◌, Option, None, Some, Result, Ok, Err, refl, sym, ap, ◌∙◌, ◌≡◌, subst, append-nil}
+use Rattle.regroup_lines.proofs.Common.{append_assoc, arith, after, Fault, SendsLine, length, Rules, Span, NotationData, take, drop, MARK}
+use Rattle.regroup_lines.proofs.Common.{begins_with_mark, passes_mark, body_written, unmarked_written, Bool, false, slice_range, take-add}
+use Rattle.regroup_lines.proofs.Common.{take-append-drop, take_rest, drop-drop, eq-eqb, eqb-true, ne_eqb, if◌then◌else◌, between}
+use Rattle.regroup_lines.proofs.Common.{number_written, place_written, ◌==◌, ◌-◌, ◌&&◌, ◌+◌, true}
 use Rattle.regroup_lines.specs.Adding.{Adds, AddsIf, SendsAdded}
 use Rattle.regroup_lines.specs.Lines.{mark_len}
 use Rattle.regroup_lines.specs.declared.line_fault.LineFault.TheVariants as fault
 use Rattle.regroup_lines.specs.declared.rules.Span.TheVariants as span
-use Rattle.regroup_lines.specs.declared.sending.Unsent.{Unsent}
 use Rattle.std.proofs.lemmas.Bool.Decides.{Decides-eqb}
 use Rattle.std.proofs.lemmas.Slice.Eq.{starts_is}
 
@@ -21,15 +20,6 @@ adds_trans a b None s t first second = tt
 adds_trans a None (Some z) s t first second = absurd second
 adds_trans None (Some y) (Some z) s t first second = absurd first
 adds_trans (Some x) (Some y) (Some z) s t first second = second ∙ ap (λ l. l ++ t) first ∙ append_assoc x s t
-
--- the next of some parts
-pub parts_added : {X : Type 0} (f : X → List ℕ) (parts : List X) (i : ℕ) (x : X) (a b c : Option (List ℕ)) → i < length parts
-    → Adds a b (flat_map f (take i parts)) → Adds b c (f (get_or parts i x)) → Adds a c (flat_map f (take (i + 1) parts))
-parts_added f parts i x a b c low first second =
-    let more : flat_map f (take (i + 1) parts) ≡ flat_map f (take i parts) ++ f (get_or parts i x) =
-    ap (flat_map f) (take_more parts i x low) ∙ flat_map-append f (take i parts) (get_or parts i x ∷ [])
-    ∙ ap (λ l. flat_map f (take i parts) ++ l) (append-nil (f (get_or parts i x))) in
-    subst (Adds a c) (sym more) (adds_trans a b c (flat_map f (take i parts)) (f (get_or parts i x)) first second)
 
 -- a text after others, or its fault
 pub after-nil : (written : Result (List ℕ) Fault) → after [] written ≡ written

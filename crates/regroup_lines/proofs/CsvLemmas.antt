@@ -1,8 +1,10 @@
 -- Fields that may be in quotes.
 use Rattle.regroup_lines.proofs.Common.{Appends, doubled, list_any, nat_eq, List, Option, StopsWithin, StopsWithin_prefix}
 use Rattle.regroup_lines.proofs.Common.{StopsWithin_suffix, [], ap, arith, drop, drop-drop, drop_more, false, flat_map, flat_map-append}
-use Rattle.regroup_lines.proofs.Common.{get_or, is_opened, is_quote, length, length-drop, ne_eqb, quoted_len, refl, slice_range, subst, sym}
-use Rattle.regroup_lines.proofs.Common.{take, take-append-drop, take_rest, true, ℕ, take_all, drop_all, append-nil, Decides-ltb, if◌then◌else◌, Some, Bool, nat_lt, passed_as, ◌&&◌, ◌-◌, ◌==◌, ◌++◌, ◌+◌, ◌<◌, ◌∙◌, ◌∷◌, ◌≡◌, ◌≢◌, ◌≤◌}
+use Rattle.regroup_lines.proofs.Common.{get_or, is_opened, is_quote, length, length-drop, ne_eqb, quoted_len, refl, slice_range, subst}
+use Rattle.regroup_lines.proofs.Common.{sym, take, take-append-drop, take_rest, true, ℕ, take_all, drop_all, append-nil, Decides-ltb}
+use Rattle.regroup_lines.proofs.Common.{if◌then◌else◌, Some, Bool, nat_lt, passed_as, ◌&&◌, ◌-◌, ◌==◌, ◌++◌, ◌+◌, ◌<◌, ◌∙◌, ◌∷◌, ◌≡◌, ◌≢◌}
+use Rattle.regroup_lines.proofs.Common.{◌≤◌}
 use Rattle.std.specs.List.{slice_index}
 use Rattle.std.proofs.lemmas.List.Folds.{list_any_at}
 use Rattle.regroup_lines.specs.Adding.{Adds}

@@ -1,18 +1,15 @@
 -- What becomes of the fields of a line, field after field.
-use Rattle.regroup_lines.proofs.Common.{fold, is_opened, Some, cond, Bool, Err, Fault, Fields, FieldRange, NotationData, List, None, Ok}
-use Rattle.regroup_lines.proofs.Common.{Option, Result, Rules, Start, passed_as, Within, [], after, ap, append-nil, append_assoc}
-use Rattle.regroup_lines.proofs.Common.{are_enough, arith, drop, drop-drop, drop_more, Decides-ltb, false, field_written, fields_of}
-use Rattle.regroup_lines.proofs.Common.{fields_written, get_or, get_or-drop, if◌then◌else◌, is_chosen, is_chosen_from, join_with_byte}
-use Rattle.regroup_lines.proofs.Common.{le-leb, leb-false, length, line_ended, lt-leb, ltb-false, nat_lt, output_delimiter, quotes_of, refl}
-use Rattle.regroup_lines.proofs.Common.{result_map_both, inl, inr, slice_range, subst, sym, take, take_rest, true, with_first, ⊤, ℕ, ◌&&◌, ◌++◌, ◌+◌}
-use Rattle.regroup_lines.proofs.Common.{◌-◌, ◌<◌, ◌∙◌, ◌∷◌, ◌≡◌, ◌≤◌, length-drop}
+use Rattle.regroup_lines.proofs.Common.{fold, Some, Bool, Err, Fault, Fields, FieldRange, NotationData, List, None, Ok, Option, Result}
+use Rattle.regroup_lines.proofs.Common.{Rules, Start, Within, [], after, ap, append-nil, append_assoc, are_enough, arith, drop, drop-drop}
+use Rattle.regroup_lines.proofs.Common.{drop_more, Decides-ltb, false, field_written, fields_of, fields_written, get_or, is_chosen}
+use Rattle.regroup_lines.proofs.Common.{is_chosen_from, join_with_byte, le-leb, leb-false, length, line_ended, lt-leb, ltb-false, nat_lt}
+use Rattle.regroup_lines.proofs.Common.{output_delimiter, quotes_of, refl, result_map_both, inl, inr, slice_range, subst, sym, take}
+use Rattle.regroup_lines.proofs.Common.{take_rest, true, with_first, ⊤, ℕ, ◌&&◌, ◌++◌, ◌+◌, ◌-◌, ◌<◌, ◌∙◌, ◌∷◌, ◌≡◌, ◌≤◌, length-drop}
 use Rattle.regroup_lines.proofs.AddLemmas.{adds_nil, adds_trans, AddsIf-after, after-after, after-nil}
 use Rattle.std.specs.Prelude.{◌⊎◌}
 use Rattle.regroup_lines.specs.Adding.{Adds, AddsIf, Separates}
-use Rattle.regroup_lines.specs.Csv.{output_as, output_of, placed, placed_as}
 use Rattle.regroup_lines.specs.Places.{least_of, next_of}
 use Rattle.regroup_lines.specs.declared.rules.Output.{Output}
-use mir.Val.{bool_byte}
 use Rattle.regroup_lines.proofs.RecordLemmas.{Ends, Ends-same, slice-more, split-joined, split-last, split-next, split-some}
 
 pub and_false : (x y : Bool) → y ≡ false → (x && y) ≡ false
@@ -123,31 +120,6 @@ tail_of d (field ∷ fields) = d ∷ join_with_byte d (field ∷ fields)
 
 pub joined-tail : (d : ℕ) (text : List ℕ) (fields : List (List ℕ)) → join_with_byte d (text ∷ fields) ≡ text ++ tail_of d fields
 joined-tail d text fields = grind (arith, append-nil)
-
--- a field that is written anew
-pub placed-anew : (cs : Fields) (e : ℕ) (quoted : Bool) (field : List ℕ) (from to : ℕ) (text : List ℕ) (output : Output)
-    → output_of cs e quoted text ≡ Some output →
-    placed cs e quoted field (from, to) text ≡ output_as output e quoted (slice_range field (bool_byte quoted) from)
-    (slice_range field to (length field)) text
-placed-anew cs e quoted field from to text output is =
-    ap (λ o. placed_as o e quoted field (from, to) text) is ∙ by quoted
-    ∙ ap (λ l. output_as output e quoted (slice_range field (bool_byte quoted) from) l text) (sym (take_rest field to))
-  where
-    by : (q : Bool) → output_as output e q (slice_range field (cond q 1 0) from) (drop to field) text
-        ≡ output_as output e q (slice_range field (bool_byte q) from) (drop to field) text
-    by true = refl
-    by false = refl
-
-pub passed-anew : (cs : Fields) (e : ℕ) (field : List ℕ) (output : Output) (quoted : Bool) → cs.output ≡ Some output
-    → quoted ≡ (cs.quotes && is_opened field) →
-    passed_as cs.output cs.quotes e field ≡ output_as output e quoted [] (slice_range field (bool_byte quoted) (length field)) []
-passed-anew cs e field output quoted is opens =
-    ap (λ o. passed_as o cs.quotes e field) is ∙ ap (λ q. output_as output e q [] (drop (cond q 1 0) field) []) (sym opens) ∙ by quoted
-    ∙ ap (λ l. output_as output e quoted [] l []) (sym (take_rest field (bool_byte quoted)))
-  where
-    by : (q : Bool) → output_as output e q [] (drop (cond q 1 0) field) [] ≡ output_as output e q [] (drop (bool_byte q) field) []
-    by true = refl
-    by false = refl
 
 pub none_between : (text : List ℕ) (n : ℕ) → slice_range text n n ≡ []
 none_between text n = let none : n - n ≡ 0 = omega arith in ap (λ k. take k (drop n text)) none

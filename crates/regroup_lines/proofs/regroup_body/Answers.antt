@@ -1,5 +1,6 @@
-use Rattle.regroup_lines.proofs.Common.{SendsLine, ap, arith, err_from_is_err_and, false, false_from_ne_true, leb-true, length, line_fault_of}
-use Rattle.regroup_lines.proofs.Common.{nat_le, place_written, refl, result_map_both, slice_range, subst, sym, unmarked_written, ◌+◌, ◌∙◌, ◌≡◌}
+use Rattle.regroup_lines.proofs.Common.{SendsLine, ap, arith, err_from_is_err_and, false, false_from_ne_true, leb-true, length}
+use Rattle.regroup_lines.proofs.Common.{line_fault_of, nat_le, place_written, refl, result_map_both, slice_range, subst, sym}
+use Rattle.regroup_lines.proofs.Common.{unmarked_written, ◌≡◌}
 use Rattle.regroup_lines.proofs.AddLemmas.{body-added, body-fault, body-sends, place-after}
 use Rattle.regroup_lines.proofs.regroup_body.Goals as goal
 use Rattle.regroup_lines.proofs.regroup_body.Goals.{in-Line, in-Trimmed}

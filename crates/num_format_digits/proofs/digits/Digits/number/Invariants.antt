@@ -1,4 +1,4 @@
-use Rattle.std.proofs.Common.{◌≡◌, ◌≢◌, ◌<◌, ℕ, get_or}
+use Rattle.std.proofs.Common.{◌≢◌, ◌<◌, ℕ, get_or}
 use Rattle.num_format_digits.specs.Digits.{zeros}
 use Rattle.num_format_digits.specs.Sets.{sets}
 use Rattle.num_format_digits.proofs.digits.Digits.number.Given as goal

@@ -1,7 +1,7 @@
-use Rattle.regroup_lines.proofs.Common.{Some, None, Option, ap, arith, drop, err_from_is_err_and, fields_of, get_or, get_or-drop, length, length-drop}
-use Rattle.regroup_lines.proofs.Common.{line_fault_of, refl, slice_range, subst, sym, ℕ, ◌+◌, ◌-◌, ◌∙◌, ◌≡◌, ◌<◌, ◌≤◌}
-use Rattle.regroup_lines.proofs.FieldLemmas.{IsNext, Past, begun-done, begun-fault, begun-kept, begun-none, begun-written, left-later, next-is}
-use Rattle.regroup_lines.proofs.FieldLemmas.{next-later, past-last, past-next, split-ended}
+use Rattle.regroup_lines.proofs.Common.{Some, ap, arith, drop, err_from_is_err_and, get_or, get_or-drop, length, length-drop, refl}
+use Rattle.regroup_lines.proofs.Common.{slice_range, subst, sym, ◌+◌, ◌-◌, ◌∙◌, ◌≡◌, ◌<◌, ◌≤◌}
+use Rattle.regroup_lines.proofs.FieldLemmas.{IsNext, Past, begun-done, begun-fault, begun-kept, begun-none, begun-written, left-later}
+use Rattle.regroup_lines.proofs.FieldLemmas.{next-is, next-later, past-last, past-next, split-ended}
 use Rattle.regroup_lines.proofs.fields.Line.append.Goals as goal
 use Rattle.regroup_lines.proofs.fields.Line.append.Goals.{else-count-next, then-count-next+in_ok-append_field}
 
