@@ -1,5 +1,5 @@
 -- Decimals at another scale, as they cross to C.
-use Rattle.std.proofs.Common.{◌≡◌, ℕ, ◌≤◌, pos, refl, arith}
+use Rattle.std.proofs.Common.{ℕ, pos, refl, arith}
 use Rattle.num_format_decimal.specs.FixedPoint.{FixedPoint}
 use Rattle.num_format_decimal.specs.Rounded.{CanRescale, CannotRescale, rescaled}
 use Rattle.num_format_decimal.specs.declared.error.DecimalError.{DecimalError}

@@ -18,7 +18,7 @@ use Rattle.num_format_typed.specs.declared.typed.TypedError.{TypedError}
 use Rattle.num_format_c.specs.Calls.{Crosses, Fails, Gets, Into, Parsing, Stores, code, crossed, digits_place_of, digits_status_of, mapped}
 use Rattle.num_format_c.specs.Calls.{place_after}
 use Rattle.num_format_c.specs.Columns.{IsShown, Row}
-use Rattle.num_format_c.specs.FormatRef.{HasFormat, IsFormatIn, IsFormatOf, digits_of, format_of}
+use Rattle.num_format_c.specs.FormatRef.{IsFormatIn, IsFormatOf, digits_of}
 use Rattle.num_format_c.proofs.DigitLemmas.{has_format, latin_digits}
 use Rattle.num_format_c.specs.declared.format.NumFormat.{NumFormat}
 use Rattle.num_format_c.specs.declared.status.Status.{Status}

@@ -19,7 +19,6 @@ use Rattle.num_format_c.specs.FormatRef.{HasFormat, HasLatin, digits_of, format_
 use Rattle.num_format_c.specs.declared.format.NumFormat.{NumFormat}
 use Rattle.num_format_c.specs.declared.layout.offset.OffsetType.{OffsetType}
 use Rattle.num_format_c.specs.declared.layout.texts.Texts.{Texts}
-use Rattle.num_format_c.specs.declared.layout.value.ValueType.{ValueType}
 use Rattle.num_format_c.specs.declared.layout.values.Values.{Values}
 use Rattle.num_format_c.specs.declared.status.Status.{Status}
 use Rattle.num_format_c.specs.declared.status.Status.TheVariants.{AmbiguousFormat, BadFormat, TooSmall, BadLength, BadOffsets, BadScale}

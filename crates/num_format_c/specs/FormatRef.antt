@@ -1,5 +1,5 @@
 -- The format that a struct of a C program has.
-use Rattle.std.specs.Prelude.{ℕ, ◌≡◌, ◌≤◌, ◌-◌, ◌==◌, List, ◌++◌, length, replicate, take, Option, Some, None, unwrap_or, IsSome, IsUtf8}
+use Rattle.std.specs.Prelude.{ℕ, ◌≡◌, ◌≤◌, ◌-◌, ◌==◌, List, ◌++◌, length, replicate, take, Option, None, unwrap_or, IsSome, IsUtf8}
 use Rattle.std.specs.Prelude.{slice_get}
 use Rattle.std.specs.Prelude.{if◌then◌else◌}
 use Rattle.num_format.specs.English.{english}

@@ -108,7 +108,10 @@ pub fn run<R: Read + Drop, O: Write + Drop, E: Write, X: Write + Drop>(
         (by_writer (writer_contents O.contents out.new) (E.contents err.new) (writer_contents X.contents rejects.new))
         (by_writer (writer_buffer out.new) [] (writer_buffer rejects.new)) }
 {
-    regroup(alloc, rules, formats, name, buffer, input, out, err, rejects).finish(name, err)
+    regroup(
+        alloc, rules, formats, name, buffer, input, out, err, rejects,
+    )
+    .finish(name, err)
 }
 
 /// Sends the message of an input that cannot be opened, and returns the status: [`FAULTY`], or [`FAILED`] if not all

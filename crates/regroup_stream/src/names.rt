@@ -45,7 +45,9 @@ pub(crate) fn run_named<R: Read + Drop, O: Write + Drop, E: Write, X: Write + Dr
         (by_writer (writer_buffer out.new) [] (writer_buffer rejects.new)) }
 {
     let Some(fields) = fields_by_name(&rules.span, field_names) else {
-        return run(alloc, rules, formats, name, buffer, input, out, err, rejects);
+        return run(
+            alloc, rules, formats, name, buffer, input, out, err, rejects,
+        );
     };
     let Ok(mut array) = vec![in alloc; 0; rules.max_line_len as usize + 1] else {
         return FAILED;
@@ -62,7 +64,9 @@ pub(crate) fn run_named<R: Read + Drop, O: Write + Drop, E: Write, X: Write + Dr
             });
             let rules = Rules { span, ..*rules };
             let input = header.line.chain(header.rest).chain(input);
-            run(alloc, &rules, formats, name, buffer, input, out, err, rejects)
+            run(
+                alloc, &rules, formats, name, buffer, input, out, err, rejects,
+            )
         }
         Ok(Err(fault)) => {
             let message = misnamed_message(name, header.text, fault);

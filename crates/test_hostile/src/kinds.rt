@@ -4,7 +4,9 @@ use crate::ReadStep::Give;
 use crate::rules::RULES;
 use crate::{ReadStep, Scripted, ScriptedReader};
 use num_format::{CustomFormat, Format, Grouping, Locale};
-use regroup_lines::{FieldRange, Fields, Invalid, Notation, RegroupFault, Rules, Span, regroup_at_most};
+use regroup_lines::{
+    FieldRange, Fields, Invalid, Notation, RegroupFault, Rules, Span, regroup_at_most,
+};
 use std::alloc::Global;
 use std::io;
 use std::process::Abort;

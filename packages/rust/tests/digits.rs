@@ -3,7 +3,7 @@
 use std::num::NonZeroU8;
 
 use num_format::parsing::{ParseAtScaleError, StrictError, TypedError};
-use num_format::{CustomFormat, Decimal, DecimalError, DigitText, Digits, DigitsError, Grouping, Locale, StrictError};
+use num_format::{CustomFormat, Decimal, DecimalError, DigitText, Digits, DigitsError, Grouping, Locale};
 
 #[test]
 fn sets_are_found_by_name_tag_and_locale() {
