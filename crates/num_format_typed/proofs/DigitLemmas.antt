@@ -6,7 +6,8 @@ use Rattle.std.specs.Char.{is_ascii_digit}
 use Rattle.std.specs.Str.{IsCharBoundary, chars, encode_utf8_all}
 use Rattle.std.proofs.lemmas.Bool.Decides.{nat_tests}
 use Rattle.std.proofs.lemmas.List.{append_assoc, get_or_push, take_at, take_more_set}
-use Rattle.std.proofs.lemmas.Str.{IsCharBoundary-after_ascii, IsCharBoundary-before_ascii, IsUtf8-take, chars_past_char, encode_ascii, encodes-chars}
+use Rattle.std.proofs.lemmas.Str.{IsCharBoundary-after_ascii, IsCharBoundary-before_ascii, IsUtf8-take, chars_past_char, encode_ascii}
+use Rattle.std.proofs.lemmas.Str.{encodes-chars}
 use Rattle.num_format_typed.specs.Classes.{class_of, is_of}
 use Rattle.num_format_typed.specs.Rewriting.{EndsInDigit, KeepsDigits, images, trim_end, without_end}
 use Rattle.num_format_typed.specs.Typed.{own_or, put}

@@ -34,7 +34,8 @@ high-scalar c least most =
 pub one : (bs : List ℕ) (at : ℕ) → at < length bs → get_or bs at 0 < 128 → IsUtf8 (take 1 (drop at bs))
 one bs at within ascii =
     let x = get_or bs at 0 in
-    subst IsUtf8 (encode_ascii x ascii ∙ sym (ap (take 1) (drop_more bs at 0 within))) (IsUtf8-encode x (low_scalar x (omega (arith, ascii))))
+    subst IsUtf8 (encode_ascii x ascii
+    ∙ sym (ap (take 1) (drop_more bs at 0 within))) (IsUtf8-encode x (low_scalar x (omega (arith, ascii))))
 
 pub two : (bs : List ℕ) (at : ℕ) → at + 1 < length bs → 194 ≤ get_or bs at 0 → get_or bs at 0 < 224 → 128 ≤ get_or bs (at + 1) 0
     → get_or bs (at + 1) 0 < 192 → IsUtf8 (take 2 (drop at bs))
@@ -46,7 +47,8 @@ two bs at within least most from to =
     let q : y ≡ 128 + c % 64 = omega arith in
     let bytes : take 2 (drop at bs) ≡ x ∷ y ∷ [] =
     ap (take 2) (drop_more bs at 0 (omega arith) ∙ ap (λ l. x ∷ l) (drop_more bs (at + 1) 0 within)) in
-    subst IsUtf8 (sym (bytes ∙ ap (λ b. b ∷ y ∷ []) p ∙ ap (λ b. (192 + c / 64) ∷ b ∷ []) q ∙ sym (encode-two c (omega arith) (omega arith))))
+    subst IsUtf8 (sym (bytes ∙ ap (λ b. b ∷ y ∷ []) p ∙ ap (λ b. (192 + c / 64) ∷ b ∷ []) q
+    ∙ sym (encode-two c (omega arith) (omega arith))))
     (IsUtf8-encode c (low_scalar c (omega arith)))
 
 pub three : (bs : List ℕ) (at : ℕ) → at + 2 < length bs → 225 ≤ get_or bs at 0 → get_or bs at 0 < 240

@@ -5,7 +5,8 @@ ghost use Rattle.std.specs.Char.{is_ascii_digit};
 ghost use Rattle.std.specs.Str.{chars, encode_utf8_all};
 ghost use Rattle.num_format_decimal.specs.declared.buffer.TheConstants.{MAX_DECIMAL_LEN};
 ghost use Rattle.num_format_typed.specs.Classes.{is_of};
-ghost use Rattle.num_format_typed.specs.Rewriting.{EndsInDigit, KeepsDigits, bytes_within, images, without_end, without_front};
+ghost use Rattle.num_format_typed.specs.Rewriting.{EndsInDigit, KeepsDigits, bytes_within, images};
+ghost use Rattle.num_format_typed.specs.Rewriting.{without_end, without_front};
 
 use crate::classes::Class;
 use num_format_decimal::MAX_DECIMAL_LEN;

@@ -500,8 +500,8 @@ impl<'a, F: Format> Rewriter<'a, F> {
         (false, text)
     }
 
-    /// Returns an error with its place in the text that was given. The rewriter is its own, so that the caller's stays in
-    /// registers.
+    /// Returns an error with its place in the text that was given. The rewriter is its own, so that the caller's stays
+    /// in registers.
     #[cold]
     #[inline(never)]
     fn placed(format: &'a F, text: &str, error: StrictError) -> StrictError

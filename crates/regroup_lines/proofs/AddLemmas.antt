@@ -55,7 +55,8 @@ module _ (rules : Rules) (from to : NotationData) (number : ℕ) (text : List �
 
   body_is : body_written rules from to number text ≡ after (take n text) rest_written
   body_is =
-      by (passes_mark rules.span number text) refl ∙ ap (λ k. after (take k text) (unmarked_written rules from to number (drop k text))) (sym is)
+      by (passes_mark rules.span number text) refl
+      ∙ ap (λ k. after (take k text) (unmarked_written rules from to number (drop k text))) (sym is)
       ∙ ap (λ l. after (take n text) (unmarked_written rules from to number l)) (sym (take_rest text n))
     where
       by : (passes : Bool) → passes_mark rules.span number text ≡ passes →

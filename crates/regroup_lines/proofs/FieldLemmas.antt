@@ -157,7 +157,8 @@ module _ (rules : Rules) (cs : Fields) (from to : NotationData) (number : ℕ) w
   tail-none : (count : ℕ) → tail_written count [] ≡ line_ended cs number count []
   tail-none count = grind arith
 
-  tail-some : (count : ℕ) (fields : List (List ℕ)) → 0 < length fields → tail_written count fields ≡ after (d ∷ []) (left_written count fields)
+  tail-some : (count : ℕ) (fields : List (List ℕ)) → 0 < length fields
+      → tail_written count fields ≡ after (d ∷ []) (left_written count fields)
   tail-some count [] some = absurd (omega arith)
   tail-some count (field ∷ fields) some = by (one_written count field) (fields_written rules cs from to number (count + 1) fields)
     where
@@ -262,7 +263,8 @@ module _ (rules : Rules) (cs : Fields) (from to : NotationData) (number : ℕ) w
               )
               by (Err f) is adds = absurd adds
 
-          pub begun-fault : (fault : Fault) → AddsIf {T = Unit {0}} (one_written count field) mid new (Err fault) → AddsIf {T = Unit {0}} whole old new (Err fault)
+          pub begun-fault : (fault : Fault) → AddsIf {T = Unit {0}} (one_written count field) mid new (Err fault)
+              → AddsIf {T = Unit {0}} whole old new (Err fault)
           begun-fault fault = by (one_written count field) refl
             where
               by : (first : Result (List ℕ) Fault) → one_written count field ≡ first → AddsIf {T = Unit {0}} first mid new (Err fault)

@@ -99,7 +99,8 @@ fields-preserved g c =
     let left = slice_range c.fields.rest.now (c.find_end-len.result.0 + 1) (length c.fields.rest.now) in
     let is : left ≡ drop (end + 1) text = left-later text c.fields.rest.now start c.find_end-len.result.0 c.fields.invariant.3 in
     let len : length left ≡ length text - (end + 1) = ap length is ∙ length-drop (end + 1) text in
-    let below : c.find_end-len.result.0 < length c.fields.rest.now = omega (arith, c.if-len-rest.false, c.find_end-len.ensures.searched.inside) in
+    let below : c.find_end-len.result.0 < length c.fields.rest.now =
+    omega (arith, c.if-len-rest.false, c.find_end-len.ensures.searched.inside) in
     let onward : length text - length left ≡ end + 1 = omega (arith, len, inside, below) in
     let byte : get_or text end 0 ≡ fields.delimiter =
     sym (get_or-drop start text c.find_end-len.result.0 0) ∙ ap (λ l. get_or l c.find_end-len.result.0 0) (sym c.fields.invariant.3)
