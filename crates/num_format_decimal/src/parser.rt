@@ -162,7 +162,7 @@ impl<'a, F: Format> DecimalParser<'a, F> {
         }
     }
 
-    /// Returns the decimal for which the text is canonical at another scale: the same number, or an error.
+    /// Returns the decimal for which the text is canonical, rescaled to a scale: the same number, or an error.
     ///
     /// ```rust
     /// DecimalParser::new(&Locale::en)?.parse_at_scale("1,234.5", 2)    // Ok(1234.50)
@@ -177,7 +177,7 @@ impl<'a, F: Format> DecimalParser<'a, F> {
         self.parse_bytes_at_scale(text.as_bytes(), scale)
     }
 
-    /// Returns the decimal for which the text of these bytes is canonical at another scale.
+    /// Returns the decimal for which the text of these bytes is canonical, rescaled to a scale.
     ///
     /// ```rust
     /// DecimalParser::new(&Locale::en)?.parse_bytes_at_scale(b"1\xFF", 2)    // Err(Parse(NotUtf8))
@@ -287,7 +287,7 @@ impl<'a, F: Format> DecimalParser<'a, F> {
         Some((place, end))
     }
 
-    /// Returns the decimal that the text before the mark and the decimals after it are canonical for together.
+    /// Returns the decimal for which the text before the mark and the decimals after it are canonical together.
     #[inline(always)]
     fn read_parts(&self, whole: &[u8], decimals: &[u8]) -> Result<Decimal, Fault>
         requires digits { list_all is_ascii_digit decimals.now ≡ true }
@@ -436,7 +436,7 @@ impl Decimal {
         DecimalParser::new(format)?.parse_bytes(bytes)
     }
 
-    /// Returns the decimal for which the text is canonical at another scale: the same number, or an error.
+    /// Returns the decimal for which the text is canonical, rescaled to a scale: the same number, or an error.
     ///
     /// For amounts of one currency, however many decimals they are written with.
     ///

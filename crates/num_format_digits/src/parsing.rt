@@ -140,8 +140,8 @@ impl Digits {
         }
     }
 
-    /// Returns the decimal for which the text is canonical in the digits of the set at another scale: the same number,
-    /// or an error.
+    /// Returns the decimal for which the text is canonical in the digits of the set, rescaled to a scale: the same
+    /// number, or an error.
     ///
     /// ```rust
     /// let arabext = Digits::of_locale(Locale::fa);

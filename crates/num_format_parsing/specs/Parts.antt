@@ -76,7 +76,7 @@ HasReading k f t negative (Number n) = IsCanonical f t (signed_number negative n
 HasReading k f t negative TooLarge = (n : ℕ) × (¬ (IsValueOf k (signed_number negative n))) × IsCanonical f t (signed_number negative n)
 HasReading k f t negative NotCanonical = (z : ℤ) → ¬ (IsCanonical f t z)
 
--- the same of a text whose sign is not known before; where it is said to are canonical for no number, nothing is known of it
+-- the same of a text whose sign is not known before; where it is said to be canonical for no number, nothing is known of it
 abbrev pub IsCanonicalReading : Kind → FormatData → List ℕ → Bool → Reading → Type 0
 IsCanonicalReading k f t negative NotCanonical = ⊤
 IsCanonicalReading k f t negative read = HasPlainSymbols f × (negative ≡ is_negative_text f t) × HasReading k f t negative read

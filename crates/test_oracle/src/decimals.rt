@@ -75,7 +75,7 @@ pub fn typed_decimal<F: Format>(alloc: Global, text: &str, format: &F) -> Option
     agreed(alloc, &results)
 }
 
-/// Returns the units of the decimal for which a text is canonical, at a scale, by itself and by a parser.
+/// Returns the units, at a scale, of the decimal for which a text is canonical, by itself and by a parser.
 pub fn decimal_at_scale<F: Format>(
     alloc: Global,
     text: &str,

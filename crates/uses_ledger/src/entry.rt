@@ -42,8 +42,7 @@ pub enum LedgerError {
 
 /// Returns the amount for which a text is canonical: the text is that of a decimal, grouped or not, and the amount is
 /// the same number at the scale of the ledger. Under `en` the text `1,234.5` is canonical for 1234.50, and `1.255` is
-/// refused with
-/// `Rescale(DigitsLost)`.
+/// refused with `Rescale(DigitsLost)`.
 pub fn parse_amount<'a, F: Format>(
     text: &str,
     parser: &DecimalParser<'a, F>,
