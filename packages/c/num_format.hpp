@@ -354,7 +354,7 @@ public:
         else return std::size_t(num_format_print_u128_len(&held, of.low, of.high));
     }
 
-    /// The number that a text spells, with its separators or without, or the status for which there is none.
+    /// The number for which a text is canonical, with its separators or without, or the status for which there is none.
     template <class T> result<T> try_parse(std::string_view text) const {
         static_assert(detail::is_number<T>, "an integer, and no character");
         result<T> found;
@@ -410,7 +410,7 @@ public:
         return found;
     }
 
-    /// The decimal that a text spells, with as many decimals, or a status.
+    /// The decimal for which a text is canonical, with as many decimals, or a status.
     template <class T = std::int64_t> result<basic_decimal<T>> try_parse_decimal(std::string_view text) const {
         return detail::decimal_by<T>([&](auto... to) { return num_format_parse_decimal(&held, text.data(), text.size(), to...); });
     }
@@ -466,9 +466,9 @@ public:
     /// unknown_digits.
     format digits(std::string_view name) const { return accepted(digits_of(name)); }
 
-    /// The number that a text spells, with its separators or without. Throws ambiguous_format where reads_back is
-    /// false, and else not_utf8, unexpected, no_digit, misspelled or out_of_range; in other digits than 0 to 9 also
-    /// other_numeral or text_too_long.
+    /// The number for which a text is canonical, with its separators or without. Throws ambiguous_format where
+    /// reads_back is false, and else not_utf8, unexpected, no_digit, misspelled or out_of_range; in other digits than 0
+    /// to 9 also other_numeral or text_too_long.
     template <class T> T parse(std::string_view text) const { return detail::accepted(try_parse<T>(text)); }
 
     /// The number that a text is as a person types it (no data type is meant). Throws what `parse` throws, and text_too_long.
@@ -478,8 +478,8 @@ public:
     /// format in other digits than 0 to 9 an error of NUM_FORMAT_BAD_FORMAT.
     template <class T> T parse_lenient(std::string_view text) const { return detail::accepted(try_parse_lenient<T>(text)); }
 
-    /// The decimal that a text spells, with as many decimals. Throws what `parse` throws, too_many_decimals, and out_of_range
-    /// where the type has not the units.
+    /// The decimal for which a text is canonical, with as many decimals. Throws what `parse` throws, too_many_decimals,
+    /// and out_of_range where the type has not the units.
     template <class T = std::int64_t> basic_decimal<T> parse_decimal(std::string_view text) const {
         return detail::accepted(try_parse_decimal<T>(text));
     }

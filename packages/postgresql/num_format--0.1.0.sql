@@ -50,8 +50,8 @@ CREATE FUNCTION num_format_version() RETURNS text
     LANGUAGE C IMMUTABLE STRICT PARALLEL SAFE;
 
 COMMENT ON FUNCTION num_format(numeric, text) IS 'the number as the locale prints it, with all its decimals';
-COMMENT ON FUNCTION num_parse(text, text) IS 'the whole number that the text spells under the locale, grouped or not';
-COMMENT ON FUNCTION num_parse_decimal(text, text) IS 'the number that the text spells under the locale, grouped or not';
+COMMENT ON FUNCTION num_parse(text, text) IS 'the whole number for which the text is canonical, grouped or not';
+COMMENT ON FUNCTION num_parse_decimal(text, text) IS 'the number for which the text is canonical, grouped or not';
 COMMENT ON FUNCTION num_try_parse(text, text) IS 'num_parse, or null for a text that is rejected';
 COMMENT ON FUNCTION num_try_parse_decimal(text, text) IS 'num_parse_decimal, or null for a text that is rejected';
 COMMENT ON FUNCTION num_parse_typed(text, text) IS 'num_parse of the text as a person types it';

@@ -412,7 +412,7 @@ static void call_format_units(sqlite3_context *context, int count, sqlite3_value
     return_decimal(context, &format, number);
 }
 
-/* num_parse(text, locale): the INTEGER that the text spells exactly. num_parse_typed: the same of a text as a person
+/* num_parse(text, locale): the INTEGER for which the text is canonical. num_parse_typed: the same of a text as a person
  * types it. */
 static void call_parse(sqlite3_context *context, int count, sqlite3_value **values) {
     num_format format;
@@ -432,8 +432,8 @@ static void call_parse(sqlite3_context *context, int count, sqlite3_value **valu
         refuse(context, given, values[1], 63, status, at);
 }
 
-/* num_parse_units(text, locale, scale): the number that the text spells exactly, times 10 to the power of the scale, as
- * an INTEGER. */
+/* num_parse_units(text, locale, scale): the number for which the text is canonical, times 10 to the power of the
+ * scale, as an INTEGER. */
 static void call_parse_units(sqlite3_context *context, int count, sqlite3_value **values) {
     num_format format;
     text given;
@@ -454,7 +454,7 @@ static void call_parse_units(sqlite3_context *context, int count, sqlite3_value 
         refuse(context, given, values[1], 63, status, at);
 }
 
-/* num_parse_decimal(text, locale): the number that the text spells exactly, as a TEXT that SQL can read. */
+/* num_parse_decimal(text, locale): the number for which the text is canonical, as a TEXT that SQL can read. */
 static void call_parse_decimal(sqlite3_context *context, int count, sqlite3_value **values) {
     num_format format;
     text given;

@@ -74,7 +74,7 @@ impl Digits {
             .expect("a number has a digit")
     }
 
-    /// Returns the number that the text spells in the digits of the set, as
+    /// Returns the number for which the text is canonical in the digits of the set, as
     /// [`from_strict_str`](FromFormattedStr::from_strict_str) does in `0` to `9`.
     ///
     /// # Errors
@@ -88,7 +88,7 @@ impl Digits {
         Ok(N::from_raw_str(text, &RawFormat::of(format).in_digits(self.number))?)
     }
 
-    /// Returns the decimal that the text spells in the digits of the set, as
+    /// Returns the decimal for which the text is canonical in the digits of the set, as
     /// [`from_strict_str`](Decimal::from_strict_str) does in `0` to `9`.
     ///
     /// ```
@@ -105,7 +105,7 @@ impl Digits {
         Ok(Decimal::from_raw_str(text, &self.raw(format))?)
     }
 
-    /// Returns the decimal that the text spells in the digits of the set at another scale, as
+    /// Returns the decimal for which the text is canonical in the digits of the set at another scale, as
     /// [`parse_at_scale`](Decimal::parse_at_scale) does in `0` to `9`.
     ///
     /// # Errors

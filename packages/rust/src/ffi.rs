@@ -458,7 +458,7 @@ pub(crate) trait Number: Print + Sized {
     /// Returns the number of at most `bits` bits that the digits and the sign of the text denote.
     fn parse(bits: u32, text: &str, format: &RawFormat) -> Option<Self>;
 
-    /// Returns the number of at most `bits` bits that the text spells.
+    /// Returns the number of at most `bits` bits for which the text is canonical.
     fn parse_strict(bits: u32, text: &str, format: &RawFormat) -> Result<Self, Refusal>;
 }
 
@@ -569,7 +569,7 @@ fn parse_decimal_by(call: ParseDecimalCall, text: &str, format: &RawFormat) -> R
     checked(status, at).map(|()| (whole(low, high) as i128, scale as u8))
 }
 
-/// Returns the units and the scale of the decimal that the text spells.
+/// Returns the units and the scale of the decimal for which the text is canonical.
 pub(crate) fn parse_decimal(text: &str, format: &RawFormat) -> Result<(i128, u8), Refusal> {
     parse_decimal_by(num_format_parse_decimal, text, format)
 }

@@ -202,7 +202,7 @@ def way_of(lenient: bool, typed: bool) -> int:
 
 
 def parse(text: str, format: Format | str, *, lenient: bool = False, typed: bool = False) -> int:
-    """Returns the number that a text spells.
+    """Returns the number for which a text is canonical.
 
     The text has to be exactly as the number is printed, with its separators or without any.
 
@@ -250,7 +250,7 @@ def parse(text: str, format: Format | str, *, lenient: bool = False, typed: bool
 
 
 def parse_decimal(text: str, format: Format | str, *, typed: bool = False) -> Decimal:
-    """Returns the decimal that a text spells.
+    """Returns the decimal for which a text is canonical.
 
     The text has to be exactly as the decimal is printed, with its separators or without any. The result has
     as many decimals as the text, and is exact, whatever the precision of the context is.

@@ -402,7 +402,7 @@ def parse_column(
     lenient: bool = False,
     typed: bool = False,
 ) -> np.ma.MaskedArray[Any, np.dtype[Any]]:
-    """Returns the numbers that the texts of a column spell, each as :func:`num_format.parse` returns it.
+    """Returns the numbers for which the texts of a column are canonical, each as :func:`num_format.parse` returns it.
 
     The array masks the rows that are null, and has 0 there; `data` of it is the array without a mask.
 
@@ -510,7 +510,7 @@ def parse_decimal_column(
     *,
     typed: bool = False,
 ) -> np.ma.MaskedArray[Any, np.dtype[Any]]:
-    """Returns the units of the decimals that the texts of a column spell, each parsed as by
+    """Returns the units of the decimals for which the texts of a column are canonical, each parsed as by
     :func:`num_format.parse_decimal`, at one scale. The array masks the rows that are null, and has 0 there.
 
     A text may have fewer decimals than the scale, or more where those past it are 0. Where one is not, the text is
