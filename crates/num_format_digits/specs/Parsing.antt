@@ -30,55 +30,70 @@ IsTextCause z t (Number e) = ⊥
 abbrev pub place_in : ℕ → List ℕ → ℕ → ℕ
 place_in z t at = bytes_within (plain_char z) at (chars t)
 
--- when a text is refused for a cause, where a format has to be taken, and the text with 0 to 9 is parsed as the relation says: first if
--- the format is not
-abbrev pub IsDigitsCause : {X E : Type 0} → Type 0 → E → ((ℕ → ℕ) → E → E) → (List ℕ → Result X E → Type 0)
-    → ℕ → List ℕ → DigitsError E → Type 0
-IsDigitsCause Taken ambiguous place parses z t (Number e) =
-    (¬ Taken × (e ≡ ambiguous))
-    ⊎ (HasOneSet z t × (length (ascii_of z t) ≤ MAX_DECIMAL_LEN)
-    × ((inner : _) × parses (ascii_of z t) (Err inner) × (e ≡ place (place_in z t) inner)))
-IsDigitsCause Taken ambiguous place parses z t e = Taken × IsTextCause z t e
+-- a way of parsing: the formats that it takes, the error under any other, and what it returns of a text under a format
+pub record Way (X E : Type 0) : Type 1 where
+  pub Takes : FormatData → Type 0
+  pub ambiguous : E
+  pub Returns : FormatData → List ℕ → Result X E → Type 0
 
--- what parsing returns: what the text with 0 to 9 is parsed as, if each of its numeric characters is a digit of the set, or the cause
-abbrev pub InDigits : {X E : Type 0} → Type 0 → E → ((ℕ → ℕ) → E → E) → (List ℕ → Result X E → Type 0)
-    → ℕ → List ℕ → Result X (DigitsError E) → Type 0
-InDigits Taken ambiguous place parses z t result =
-    MatchResult result (λ x. HasOneSet z t × parses (ascii_of z t) (Ok x)) (IsDigitsCause Taken ambiguous place parses z t)
+-- strict parsing: of a whole number of a kind, of a decimal, and of a decimal of a scale
+abbrev pub numbers : {X : Type 0} → Kind → (X → ℤ) → Way X StrictError
+numbers k value = record { Takes = IsUnambiguous; ambiguous = strict.AmbiguousFormat; Returns = ParsesStrictly k value }
 
--- of a whole number of a kind, and of a decimal
-abbrev pub ParsesInDigits : {X : Type 0} → Kind → (X → ℤ) → FormatData → ℕ → List ℕ → Result X (DigitsError StrictError) → Type 0
-ParsesInDigits k value f = InDigits (IsUnambiguous f) strict.AmbiguousFormat placed (ParsesStrictly k value f)
+abbrev pub decimals : Way FixedPoint StrictError
+decimals = record { Takes = MarksDecimals; ambiguous = strict.AmbiguousFormat; Returns = DecimalResult }
 
-abbrev pub DecimalInDigits : FormatData → ℕ → List ℕ → Result FixedPoint (DigitsError StrictError) → Type 0
-DecimalInDigits f = InDigits (MarksDecimals f) strict.AmbiguousFormat placed (DecimalResult f)
+abbrev pub at_scale : (scale : ℕ) → Way FixedPoint ParseAtScaleError
+at_scale scale = record {
+  Takes = MarksDecimals;
+  ambiguous = Parse strict.AmbiguousFormat;
+  Returns = λ f t. AtScaleResult f t scale;
+}
 
--- an error of typed parsing with another place, where one of strict parsing is given
-abbrev pub placed_typed : {E : Type 0} → ((ℕ → ℕ) → E → E) → (ℕ → ℕ) → TypedError E → TypedError E
-placed_typed placed place typed.TooLong = typed.TooLong
-placed_typed placed place (typed.Number e) = typed.Number (placed place e)
+-- the same as people type them
+abbrev pub typed_numbers : {X : Type 0} → Kind → (X → ℤ) → Way X (TypedError StrictError)
+typed_numbers k value = record {
+  Takes = IsTypable;
+  ambiguous = typed.Number strict.AmbiguousFormat;
+  Returns = ParsesTyped k value;
+}
 
--- of either as a person types it
-abbrev pub TypedInDigits : {X : Type 0} → Kind → (X → ℤ) → FormatData → ℕ → List ℕ
-    → Result X (DigitsError (TypedError StrictError)) → Type 0
-TypedInDigits k value f = InDigits (IsTypable f) (typed.Number strict.AmbiguousFormat) (placed_typed placed) (ParsesTyped k value f)
+abbrev pub typed_decimals : Way FixedPoint (TypedError StrictError)
+typed_decimals = record {
+  Takes = λ f. IsTypable f × MarksDecimals f;
+  ambiguous = typed.Number strict.AmbiguousFormat;
+  Returns = TypedDecimalResult;
+}
 
-abbrev pub TypedDecimalInDigits : FormatData → ℕ → List ℕ → Result FixedPoint (DigitsError (TypedError StrictError)) → Type 0
-TypedDecimalInDigits f =
-    InDigits (IsTypable f × MarksDecimals f) (typed.Number strict.AmbiguousFormat) (placed_typed placed) (TypedDecimalResult f)
+abbrev pub typed_at_scale : (scale : ℕ) → Way FixedPoint (TypedError ParseAtScaleError)
+typed_at_scale scale = record {
+  Takes = λ f. IsTypable f × MarksDecimals f;
+  ambiguous = typed.Number (Parse strict.AmbiguousFormat);
+  Returns = λ f t. TypedAtScaleResult f t scale;
+}
 
--- an error of decimals of a scale with another place
+-- an error of decimals of a scale, and one of typed parsing, with another place
 abbrev pub placed_at_scale : (ℕ → ℕ) → ParseAtScaleError → ParseAtScaleError
 placed_at_scale place (Parse e) = Parse (placed place e)
 placed_at_scale place (Rescale e) = Rescale e
 
--- of a decimal at a scale, as it is printed
-abbrev pub AtScaleInDigits : (scale : ℕ) → FormatData → ℕ → List ℕ → Result FixedPoint (DigitsError ParseAtScaleError) → Type 0
-AtScaleInDigits scale f = InDigits (MarksDecimals f) (Parse strict.AmbiguousFormat) placed_at_scale (λ t. AtScaleResult f t scale)
+abbrev pub placed_typed : {E : Type 0} → ((ℕ → ℕ) → E → E) → (ℕ → ℕ) → TypedError E → TypedError E
+placed_typed placed place typed.TooLong = typed.TooLong
+placed_typed placed place (typed.Number e) = typed.Number (placed place e)
 
--- of one as a person types it
-abbrev pub TypedAtScaleInDigits : (scale : ℕ) → FormatData → ℕ → List ℕ
-    → Result FixedPoint (DigitsError (TypedError ParseAtScaleError)) → Type 0
-TypedAtScaleInDigits scale f =
-    InDigits (IsTypable f × MarksDecimals f) (typed.Number (Parse strict.AmbiguousFormat)) (placed_typed placed_at_scale)
-    (λ t. TypedAtScaleResult f t scale)
+-- when a text is refused for a cause, where the text with 0 to 9 is parsed as the relation says
+abbrev pub IsDigitsCause : {X E : Type 0} → ((ℕ → ℕ) → E → E) → (List ℕ → Result X E → Type 0) → ℕ → List ℕ → DigitsError E → Type 0
+IsDigitsCause placed parses z t (Number e) = HasOneSet z t × (length (ascii_of z t) ≤ MAX_DECIMAL_LEN)
+    × ((inner : _) × parses (ascii_of z t) (Err inner) × (e ≡ placed (place_in z t) inner))
+IsDigitsCause placed parses z t e = IsTextCause z t e
+
+-- what is returned then: what the text with 0 to 9 is parsed as, if each of its numeric characters is a digit of the set, or the cause
+abbrev pub ParsesDigits : {X E : Type 0} → ((ℕ → ℕ) → E → E) → (List ℕ → Result X E → Type 0) → ℕ → List ℕ
+    → Result X (DigitsError E) → Type 0
+ParsesDigits placed parses z t result =
+    MatchResult result (λ x. HasOneSet z t × parses (ascii_of z t) (Ok x)) (IsDigitsCause placed parses z t)
+
+-- what parsing in a digit set returns under a format: first of all its error if the way of parsing does not take the format
+abbrev pub InDigits : {X E : Type 0} → Way X E → ((ℕ → ℕ) → E → E) → FormatData → ℕ → List ℕ → Result X (DigitsError E) → Type 0
+InDigits way placed f z t result =
+    (¬ way.Takes f × (result ≡ Err (Number way.ambiguous))) ⊎ (way.Takes f × ParsesDigits placed (way.Returns f) z t result)

@@ -16,6 +16,7 @@
 
 pub mod digits;
 pub mod laws;
+pub mod parser;
 pub mod parsing;
 mod plain;
 pub mod printing;
@@ -23,6 +24,7 @@ pub mod sets;
 pub mod tags;
 
 pub use digits::Digits;
+pub use parser::{AtScale, TextParser};
 pub use parsing::DigitsError;
 pub use printing::DigitText;
 pub use tags::UnknownDigits;

@@ -1,21 +1,21 @@
 //! Parsing of a text in one digit set, strictly or as people type it.
-ghost use Rattle.std.specs.Prelude.{◌≡◌, ◌<◌, ◌≤◌, ◌++◌, None, Some, Ok, IfOk, IfSome, IsUtf8, MatchOption};
-ghost use Rattle.std.specs.Prelude.{MatchResult, length, take};
+ghost use Rattle.std.specs.Prelude.{◌≡◌, ◌≤◌, None, Ok, IfOk, IfSome, IsUtf8, MatchOption, MatchResult, length};
 ghost use Rattle.std.specs.Str.{chars};
 ghost use Rattle.num_format_decimal.specs.declared.buffer.TheConstants.{MAX_DECIMAL_LEN};
 ghost use Rattle.num_format_decimal.specs.Marks.{MarksDecimals};
 ghost use Rattle.num_format_typed.specs.Typed.{IsTypable, placed};
 ghost use Rattle.num_format_digits.specs.Digits.{HasOneSet, HasZero, IsZero, ascii_of, in_digits, other_from};
 ghost use Rattle.num_format_digits.specs.Digits.{shown_byte};
-ghost use Rattle.num_format_digits.specs.Parsing.{AtScaleInDigits, DecimalInDigits, IsTextCause, ParsesInDigits};
-ghost use Rattle.num_format_digits.specs.Parsing.{TypedAtScaleInDigits, TypedDecimalInDigits, TypedInDigits};
-ghost use Rattle.num_format_digits.specs.Parsing.{place_in, placed_at_scale};
+ghost use Rattle.num_format_digits.specs.Parsing.{InDigits, IsTextCause, ParsesDigits, at_scale, decimals, numbers};
+ghost use Rattle.num_format_digits.specs.Parsing.{placed_at_scale, placed_typed, typed_at_scale, typed_decimals};
+ghost use Rattle.num_format_digits.specs.Parsing.{typed_numbers};
 
 use crate::digits::Digits;
+use crate::parser::{AtScale, Decimals, Placed, TextParser};
 use num_format_decimal::{Decimal, DecimalParser, MAX_DECIMAL_LEN, ParseAtScaleError};
 use num_format_parsing::{FromFormattedStr, StrictError, StrictParser};
 use num_format_text::Format;
-use num_format_typed::rewriting::{bytes_within, rewrite, split_first};
+use num_format_typed::rewriting::{rewrite, split_first};
 use num_format_typed::{TypedError, TypedParser, parse_typed_bytes};
 
 /// Why a text was refused as a number in a digit set. `E` is the error of strict or of typed parsing.
@@ -49,17 +49,11 @@ impl Digits {
         text: &str,
         format: &F,
     ) -> Result<N, DigitsError<StrictError>>
-        ensures { ParsesInDigits N.kind N.value (F.answers format.now) self text.now result }
+        ensures { InDigits (numbers N.kind N.value) placed (F.answers format.now) self text.now result }
     {
-        let parser = match StrictParser::new(format) {
-            Ok(parser) => parser,
-            Err(error) => return Err(DigitsError::Number(error)),
-        };
-        let mut array = [0; MAX_DECIMAL_LEN];
-        let ascii = self.to_ascii(text, &mut array)?;
-        match parser.parse_bytes(ascii) {
-            Ok(number) => Ok(number),
-            Err(error) => Err(DigitsError::Number(self.placed(text, error))),
+        match StrictParser::new(format) {
+            Ok(parser) => self.parse_by(text, &parser),
+            Err(error) => Err(DigitsError::Number(error)),
         }
     }
 
@@ -70,7 +64,7 @@ impl Digits {
     /// set.
     pub fn parse_shown<N: FromFormattedStr, F: Format>(self, text: &[u8], format: &F) -> Option<N>
         ensures { IfSome result (λ n. IsUtf8 text.now
-            × ParsesInDigits N.kind N.value (F.answers format.now) self text.now (Ok n)) }
+            × InDigits (numbers N.kind N.value) placed (F.answers format.now) self text.now (Ok n)) }
     {
         format.minus_sign().into_str();
         format.separator().into_str();
@@ -91,7 +85,7 @@ impl Digits {
         format: &F,
     ) -> Option<N>
         ensures { IfSome result (λ n. IsUtf8 text.now
-            × TypedInDigits N.kind N.value (F.answers format.now) self text.now (Ok n)) }
+            × InDigits (typed_numbers N.kind N.value) (placed_typed placed) (F.answers format.now) self text.now (Ok n)) }
     {
         let mut array = [0; MAX_DECIMAL_LEN];
         let len = self.take_plain(text, &mut array)?;
@@ -102,17 +96,12 @@ impl Digits {
     }
 
     /// Does the same for a decimal, if all other characters of the text are ASCII or symbols of locales.
-    #[inline(never)]
     pub fn parse_shown_decimal<F: Format>(self, text: &[u8], format: &F) -> Option<Decimal>
         ensures { IfSome result (λ d. IsUtf8 text.now
-            × DecimalInDigits (F.answers format.now) self text.now (Ok d)) }
+            × InDigits decimals placed (F.answers format.now) self text.now (Ok d)) }
     {
-        let Ok(parser) = DecimalParser::new(format) else {
-            return None;
-        };
-        let mut array = [0; MAX_DECIMAL_LEN];
-        let len = self.take_plain(text, &mut array)?;
-        parser.decimal(&array[..len])
+        let parser = DecimalParser::new(format).ok()?;
+        self.parse_shown_by(text, &parser)
     }
 
     /// Returns the decimal for which the text is canonical in the digits of the set.
@@ -126,17 +115,11 @@ impl Digits {
         text: &str,
         format: &F,
     ) -> Result<Decimal, DigitsError<StrictError>>
-        ensures { DecimalInDigits (F.answers format.now) self text.now result }
+        ensures { InDigits decimals placed (F.answers format.now) self text.now result }
     {
-        let parser = match DecimalParser::new(format) {
-            Ok(parser) => parser,
-            Err(error) => return Err(DigitsError::Number(error)),
-        };
-        let mut array = [0; MAX_DECIMAL_LEN];
-        let ascii = self.to_ascii(text, &mut array)?;
-        match parser.parse_bytes(ascii) {
-            Ok(decimal) => Ok(decimal),
-            Err(error) => Err(DigitsError::Number(self.placed(text, error))),
+        match DecimalParser::new(format) {
+            Ok(decimals) => self.parse_by(text, &decimals),
+            Err(error) => Err(DigitsError::Number(error)),
         }
     }
 
@@ -154,17 +137,11 @@ impl Digits {
         scale: u8,
         format: &F,
     ) -> Result<Decimal, DigitsError<ParseAtScaleError>>
-        ensures { AtScaleInDigits scale (F.answers format.now) self text.now result }
+        ensures { InDigits (at_scale scale) placed_at_scale (F.answers format.now) self text.now result }
     {
-        let parser = match DecimalParser::new(format) {
-            Ok(parser) => parser,
-            Err(error) => return Err(DigitsError::Number(ParseAtScaleError::Parse(error))),
-        };
-        let mut array = [0; MAX_DECIMAL_LEN];
-        let ascii = self.to_ascii(text, &mut array)?;
-        match parser.parse_bytes_at_scale(ascii, scale) {
-            Ok(rescaled) => Ok(rescaled),
-            Err(error) => Err(DigitsError::Number(self.placed_at_scale(text, error))),
+        match DecimalParser::new(format) {
+            Ok(parser) => self.parse_by(text, &AtScale { parser, scale }),
+            Err(error) => Err(DigitsError::Number(ParseAtScaleError::Parse(error))),
         }
     }
 
@@ -180,20 +157,12 @@ impl Digits {
         text: &str,
         format: &F,
     ) -> Result<N, DigitsError<TypedError<StrictError>>>
-        ensures { TypedInDigits N.kind N.value (F.answers format.now) self text.now result }
+        ensures { InDigits (typed_numbers N.kind N.value) (placed_typed placed)
+            (F.answers format.now) self text.now result }
     {
-        let parser = match TypedParser::new(format) {
-            Ok(parser) => parser,
-            Err(error) => return Err(DigitsError::Number(TypedError::Number(error))),
-        };
-        let mut array = [0; MAX_DECIMAL_LEN];
-        let ascii = self.to_ascii(text, &mut array)?;
-        match parser.parse_bytes(ascii) {
-            Ok(number) => Ok(number),
-            Err(TypedError::TooLong) => Err(DigitsError::Number(TypedError::TooLong)),
-            Err(TypedError::Number(error)) => Err(DigitsError::Number(TypedError::Number(
-                self.placed(text, error),
-            ))),
+        match TypedParser::new(format) {
+            Ok(parser) => self.parse_by(text, &parser),
+            Err(error) => Err(DigitsError::Number(TypedError::Number(error))),
         }
     }
 
@@ -208,35 +177,11 @@ impl Digits {
         text: &str,
         format: &F,
     ) -> Result<Decimal, DigitsError<TypedError<StrictError>>>
-        ensures { TypedDecimalInDigits (F.answers format.now) self text.now result }
+        ensures { InDigits typed_decimals (placed_typed placed) (F.answers format.now) self text.now result }
     {
-        let ambiguous = DigitsError::Number(TypedError::Number(StrictError::AmbiguousFormat));
-        let Ok(parser) = TypedParser::new(format) else {
-            return Err(ambiguous);
-        };
-        if !parser.marks_decimals() {
-            return Err(ambiguous);
-        }
-        self.typed_decimal(&parser, text)
-    }
-
-    /// Returns the decimal that a person means by the text, under the format of a parser.
-    fn typed_decimal<'a, F: Format>(
-        self,
-        parser: &TypedParser<'a, F>,
-        text: &str,
-    ) -> Result<Decimal, DigitsError<TypedError<StrictError>>>
-        requires { IsTypable parser.now × MarksDecimals parser.now }
-        ensures { TypedDecimalInDigits parser.now self text.now result }
-    {
-        let mut array = [0; MAX_DECIMAL_LEN];
-        let ascii = self.to_ascii(text, &mut array)?;
-        match parser.parse_decimal_bytes(ascii) {
-            Ok(number) => Ok(number),
-            Err(TypedError::TooLong) => Err(DigitsError::Number(TypedError::TooLong)),
-            Err(TypedError::Number(error)) => Err(DigitsError::Number(TypedError::Number(
-                self.placed(text, error),
-            ))),
+        match typed_parser(format) {
+            Some(parser) => self.parse_by(text, &Decimals(parser)),
+            None => Err(DigitsError::Number(TypedError::Number(StrictError::AmbiguousFormat))),
         }
     }
 
@@ -253,38 +198,46 @@ impl Digits {
         scale: u8,
         format: &F,
     ) -> Result<Decimal, DigitsError<TypedError<ParseAtScaleError>>>
-        ensures { TypedAtScaleInDigits scale (F.answers format.now) self text.now result }
+        ensures { InDigits (typed_at_scale scale) (placed_typed placed_at_scale)
+            (F.answers format.now) self text.now result }
     {
-        let cause = ParseAtScaleError::Parse(StrictError::AmbiguousFormat);
-        let ambiguous = DigitsError::Number(TypedError::Number(cause));
-        let Ok(parser) = TypedParser::new(format) else {
-            return Err(ambiguous);
-        };
-        if !parser.marks_decimals() {
-            return Err(ambiguous);
+        match typed_parser(format) {
+            Some(parser) => self.parse_by(text, &AtScale { parser, scale }),
+            None => {
+                let cause = ParseAtScaleError::Parse(StrictError::AmbiguousFormat);
+                Err(DigitsError::Number(TypedError::Number(cause)))
+            }
         }
-        self.typed_at_scale(&parser, text, scale)
     }
 
-    /// Returns the decimal that a person means by the text at another scale, under the format of a parser.
-    fn typed_at_scale<'a, F: Format>(
+    /// Returns what a parser returns of the text with `0` to `9` for the digits of the set. A place in an error counts
+    /// the bytes of the text that was given.
+    pub fn parse_by<T, P: TextParser<T>>(
         self,
-        parser: &TypedParser<'a, F>,
         text: &str,
-        scale: u8,
-    ) -> Result<Decimal, DigitsError<TypedError<ParseAtScaleError>>>
-        requires { IsTypable parser.now × MarksDecimals parser.now }
-        ensures { TypedAtScaleInDigits scale parser.now self text.now result }
+        parser: &P,
+    ) -> Result<T, DigitsError<P::Error>>
+        ensures { ParsesDigits P.Error.placed ((P.way parser.now).Returns (P.format parser.now))
+            self text.now result }
     {
         let mut array = [0; MAX_DECIMAL_LEN];
         let ascii = self.to_ascii(text, &mut array)?;
-        match parser.parse_bytes_at_scale(ascii, scale) {
+        match parser.parse_text(ascii) {
             Ok(number) => Ok(number),
-            Err(TypedError::TooLong) => Err(DigitsError::Number(TypedError::TooLong)),
-            Err(TypedError::Number(error)) => Err(DigitsError::Number(TypedError::Number(
-                self.placed_at_scale(text, error),
-            ))),
+            Err(error) => Err(DigitsError::Number(error.placed(self, text))),
         }
+    }
+
+    /// Does the same for bytes, or returns `None` where only [`parse_by`](Digits::parse_by) can tell, as for a text that
+    /// is refused, or one with other symbols than those of locales.
+    #[inline(never)]
+    pub fn parse_shown_by<T, P: TextParser<T>>(self, text: &[u8], parser: &P) -> Option<T>
+        ensures { IfSome result (λ x. IsUtf8 text.now
+            × ParsesDigits P.Error.placed ((P.way parser.now).Returns (P.format parser.now)) self text.now (Ok x)) }
+    {
+        let mut array = [0; MAX_DECIMAL_LEN];
+        let len = self.take_plain(text, &mut array)?;
+        parser.parse_text(&array[..len]).ok()
     }
 
     /// Writes the text with `0` to `9` for the digits of the set to the start of an array, and returns these bytes, or
@@ -340,30 +293,13 @@ impl Digits {
         }
         None
     }
+}
 
-    /// Returns an error whose place in a text with `0` to `9` is that in the text itself.
-    #[cold]
-    fn placed(self, text: &str, error: StrictError) -> StrictError
-        ensures { result ≡ placed (place_in self text.now) error }
-    {
-        match error {
-            StrictError::Unexpected { at } => StrictError::Unexpected {
-                at: bytes_within(at, text, &self),
-            },
-            _ => error,
-        }
-    }
-
-    /// Does the same for a decimal at a scale.
-    #[cold]
-    fn placed_at_scale(self, text: &str, error: ParseAtScaleError) -> ParseAtScaleError
-        ensures { result ≡ placed_at_scale (place_in self text.now) error }
-    {
-        match error {
-            ParseAtScaleError::Parse(error) => {
-                ParseAtScaleError::Parse(self.placed(text, error))
-            }
-            ParseAtScaleError::Rescale(error) => ParseAtScaleError::Rescale(error),
-        }
-    }
+/// Returns a parser of decimals that people type under the format, if that marks decimals.
+fn typed_parser<F: Format>(format: &F) -> Option<TypedParser<'_, F>>
+    ensures { MatchOption result (¬ (IsTypable (F.answers format.now) × MarksDecimals (F.answers format.now)))
+        (λ parser. (parser ≡ F.answers format.now) × IsTypable parser × MarksDecimals parser) }
+{
+    let parser = TypedParser::new(format).ok()?;
+    parser.marks_decimals().then_some(parser)
 }
