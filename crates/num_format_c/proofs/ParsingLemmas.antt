@@ -1,39 +1,50 @@
 -- What parsing returns, as it crosses to C.
 use Rattle.std.proofs.Common.{◌≡◌, ◌⊎◌, inl, inr, refl, IsUtf8, ℕ, ℤ, pos, List, ap, sym, ◌∙◌, subst, Option, Some, None, Result, Ok, Err}
 use Rattle.std.proofs.Common.{MatchOption}
-use Rattle.std.specs.Prelude.{IfSome, MatchResult}
+use Rattle.std.specs.Prelude.{MatchResult}
 use Rattle.num_format.specs.Format.{FormatData}
 use Rattle.num_format.specs.Kind.{Kind}
 use Rattle.num_format.specs.Strict.{IsUnambiguous, ParsesStrictly}
 use Rattle.num_format.specs.StrictError.{StrictError}
 use Rattle.num_format.specs.StrictError.TheVariants as cause
-use Rattle.num_format_decimal.specs.FixedPoint.{FixedPoint}
-use Rattle.num_format_digits.specs.Digits.{HasOneSet, ascii_of}
-use Rattle.num_format_digits.specs.Parsing.{InDigits, ParsesInDigits, TypedInDigits, placed_typed}
+use Rattle.num_format_digits.specs.Digits.{ascii_of}
+use Rattle.num_format_digits.specs.Parsing.{InDigits, ParsesDigits, Way, placed_typed}
+use Rattle.num_format_digits.specs.Parsing as ways
 use Rattle.num_format_digits.specs.declared.parsing.DigitsError.{DigitsError}
 use Rattle.num_format_digits.specs.declared.parsing.DigitsError.TheVariants as digits
 use Rattle.num_format_typed.specs.declared.typed.TypedError.TheVariants as typed
 use Rattle.num_format_typed.specs.Typed.{IsTypable, ParsesTyped, TypedResult, map_error, placed}
 use Rattle.num_format_typed.specs.declared.typed.TypedError.{TypedError}
-use Rattle.num_format_c.specs.Calls.{Crosses, Fails, Gets, Into, Parsing, Stores, code, crossed, digits_place_of, digits_status_of, mapped}
-use Rattle.num_format_c.specs.Calls.{place_after}
-use Rattle.num_format_c.specs.Columns.{IsShown, Row}
-use Rattle.num_format_c.specs.FormatRef.{IsFormatIn, IsFormatOf, digits_of}
+use Rattle.num_format_c.specs.Calls.{Crosses, Fails, Gets, Into, Parsing, Stores, code, crossed, crossing, digits_place_of}
+use Rattle.num_format_c.specs.Calls.{digits_status_of, mapped, numbers, place_after, place_of, status_of, typed_numbers, typed_place_of}
+use Rattle.num_format_c.specs.Calls.{typed_status_of}
+use Rattle.num_format_c.specs.Columns.{Parsed, ParsesRows, ParsesValues, Row, RowParser}
+use Rattle.num_format_c.specs.FormatRef.{IsFormatIn, IsFormatOf, digits_of, format_of}
+use Rattle.num_format_c.specs.Layout.{Representation, row_count}
+use Rattle.num_format_c.specs.declared.layout.offset.OffsetType.{OffsetType}
+use Rattle.num_format_c.specs.declared.layout.texts.Texts.{Texts}
 use Rattle.num_format_c.proofs.DigitLemmas.{has_format, latin_digits}
 use Rattle.num_format_c.specs.declared.format.NumFormat.{NumFormat}
 use Rattle.num_format_c.specs.declared.status.Status.{Status}
-use Rattle.num_format_c.specs.declared.status.Status.TheVariants.{BadBits}
+use Rattle.num_format_c.specs.declared.status.Status.TheVariants.{BadBits, BadLength}
 
-module _ {A X E : Type 0} (value : A → X) where
-  -- the image of a value changes neither its status nor the place
-  crossed_mapped : (status : E → Status) (q : Result A E) → crossed status (mapped value q) ≡ mapped value (crossed status q)
+module _ {A X : Type 0} (value : A → X) where
+  -- the image of a value changes neither its status, nor the place, nor what is stored
+  crossed_mapped : {E : Type 0} (status : E → Status) (q : Result A E) → crossed status (mapped value q) ≡ mapped value (crossed status q)
   crossed_mapped status (Ok x) = refl
   crossed_mapped status (Err e) = refl
 
-  place_mapped : (place : E → ℕ → ℕ) (q : Result A E) (old : ℕ) → place_after place q old ≡ place_after place (mapped value q) old
+  place_mapped : {E : Type 0} (place : E → ℕ → ℕ) (q : Result A E) (old : ℕ)
+      → place_after place q old ≡ place_after place (mapped value q) old
   place_mapped place (Ok x) old = refl
   place_mapped place (Err e) old = refl
 
+  stores_mapped : {E : Type 0} (status : E → Status) (out : X → ℤ) (old new result : ℤ) (q : Result A E)
+      → Stores (λ x. out (value x)) (crossed status q) old new result → Stores out (crossed status (mapped value q)) old new result
+  stores_mapped status out old new result (Ok x) h = h
+  stores_mapped status out old new result (Err e) h = h
+
+module _ {A X E : Type 0} (value : A → X) where
   error_mapped : (place : E → E) (q : Result A E) → mapped value (map_error place q) ≡ map_error place (mapped value q)
   error_mapped place (Ok x) = refl
   error_mapped place (Err e) = refl
@@ -55,15 +66,46 @@ module _ {A X E : Type 0} (value : A → X) where
       TypedResult.typed ok e (up t (Err e) p) utf8 fits (mapped value s) (up _ s r) (ap (mapped value) is ∙ error_mapped (place _) s)
 
   -- parsing in a digit set returns the images of values where that of the text with 0 to 9 does
-  pub digits_mapped : (Taken : Type 0) (ambiguous : E) (place : (ℕ → ℕ) → E → E) (P : List ℕ → Result A E → Type 0)
-      (R : List ℕ → Result X E → Type 0) → ((t : List ℕ) (q : Result A E) → P t q → R t (mapped value q)) → (z : ℕ) (t : List ℕ)
-      (q : Result A (DigitsError E)) → InDigits Taken ambiguous place P z t q → InDigits Taken ambiguous place R z t (mapped value q)
-  digits_mapped taken a place P R up z t (Ok x) p = (p.0, up (ascii_of z t) (Ok x) p.1)
-  digits_mapped taken a place P R up z t (Err (digits.OtherNumeral at)) p = p
-  digits_mapped taken a place P R up z t (Err digits.TooLong) p = p
-  digits_mapped taken a place P R up z t (Err (digits.Number e)) (inl wrong) = inl wrong
-  digits_mapped taken a place P R up z t (Err (digits.Number e)) (inr p) =
-      inr (p.0, p.1, (p.2.0, up (ascii_of z t) (Err p.2.0) p.2.1, p.2.2))
+  module _ (Takes : FormatData → Type 0) (ambiguous : E) (P : FormatData → List ℕ → Result A E → Type 0)
+      (R : FormatData → List ℕ → Result X E → Type 0) (moved : (ℕ → ℕ) → E → E)
+      (up : (f : FormatData) (t : List ℕ) (q : Result A E) → P f t q → R f t (mapped value q)) where
+    abbrev pub of_values : Way A E
+    of_values = record { Takes = Takes; ambiguous = ambiguous; Returns = P }
+
+    abbrev pub of_images : Way X E
+    of_images = record { Takes = Takes; ambiguous = ambiguous; Returns = R }
+
+    parses_mapped : (f : FormatData) (z : ℕ) (t : List ℕ) (q : Result A (DigitsError E)) → ParsesDigits moved (P f) z t q
+        → ParsesDigits moved (R f) z t (mapped value q)
+    parses_mapped f z t (Ok x) p = (p.0, up f (ascii_of z t) (Ok x) p.1)
+    parses_mapped f z t (Err (digits.OtherNumeral at)) p = p
+    parses_mapped f z t (Err digits.TooLong) p = p
+    parses_mapped f z t (Err (digits.Number e)) p = (p.0, p.1, (p.2.0, up f (ascii_of z t) (Err p.2.0) p.2.1, p.2.2))
+
+    pub digits_mapped : (f : FormatData) (z : ℕ) (t : List ℕ) (q : Result A (DigitsError E)) → InDigits of_values moved f z t q
+        → InDigits of_images moved f z t (mapped value q)
+    digits_mapped f z t q (inl p) = inl (p.0, ap (mapped value) p.1)
+    digits_mapped f z t q (inr p) = inr (p.0, parses_mapped f z t q p.1)
+
+    -- and so a row of a column is parsed as their images
+    pub row_mapped : (status : E → Status) (place : E → ℕ → ℕ) (out : X → ℤ) (s : NumFormat) (t : List ℕ) (old new result : ℤ)
+        → Row (crossing of_values moved status place) (λ x. out (value x)) s t old new result
+        → Row (crossing of_images moved status place) out s t old new result
+    row_mapped status place out s t old new result (at, c) = (at, record {
+      bad_format = c.bad_format;
+      parsed = λ given either. (let q = c.parsed given either in (
+        mapped value q.0,
+        up (format_of s) t q.0 q.1,
+        stores_mapped value status out old new result q.0 q.2,
+        q.3 ∙ place_mapped value place q.0 0,
+      ));
+      in_digits = λ given other utf8. (let q = c.in_digits given other utf8 in (
+        mapped value q.0,
+        digits_mapped (format_of s) (digits_of s) t q.0 q.1,
+        stores_mapped value (digits_status_of status) out old new result q.0 q.2,
+        q.3 ∙ place_mapped value (digits_place_of place) q.0 0,
+      ));
+    })
 
 -- a result as it is
 mapped_same : {X E : Type 0} (q : Result X E) → mapped (λ x. x) q ≡ q
@@ -95,20 +137,50 @@ typed_number_mapped k value f t q p =
     typed_mapped value f t cause.AmbiguousFormat cause.NotUtf8 placed (ParsesStrictly k value f) (ParsesStrictly k (λ z. z) f)
     (λ t q. strict_mapped k value f t q) q p
 
--- in a digit set too
-pub strict_in_mapped : {A : Type 0} (k : Kind) (value : A → ℤ) (f : FormatData) (z : ℕ) (t : List ℕ)
-    (q : Result A (DigitsError StrictError))
-    → ParsesInDigits k value f z t q → ParsesInDigits k (λ z. z) f z t (mapped value q)
-strict_in_mapped k value f z t q p =
-    digits_mapped value (IsUnambiguous f) cause.AmbiguousFormat placed (ParsesStrictly k value f) (ParsesStrictly k (λ z. z) f)
-    (λ t q. strict_mapped k value f t q) z t q p
+-- in a digit set too, and in a row of a column
+module _ {A : Type 0} (k : Kind) (value : A → ℤ) where
+  pub strict_in_mapped : (f : FormatData) (z : ℕ) (t : List ℕ) (q : Result A (DigitsError StrictError))
+      → InDigits (ways.numbers k value) placed f z t q → InDigits (ways.numbers k (λ z. z)) placed f z t (mapped value q)
+  strict_in_mapped =
+      digits_mapped value IsUnambiguous cause.AmbiguousFormat (ParsesStrictly k value) (ParsesStrictly k (λ z. z)) placed
+      (λ f t q. strict_mapped k value f t q)
 
-pub typed_in_mapped : {A : Type 0} (k : Kind) (value : A → ℤ) (f : FormatData) (z : ℕ) (t : List ℕ)
-    (q : Result A (DigitsError (TypedError StrictError))) → TypedInDigits k value f z t q → TypedInDigits k (λ z. z) f z t (mapped value q)
-typed_in_mapped k value f z t q p =
-    digits_mapped value (IsTypable f) (typed.Number cause.AmbiguousFormat) (placed_typed placed) (ParsesTyped k value f)
-    (ParsesTyped k (λ z. z) f)
-    (λ t q. typed_number_mapped k value f t q) z t q p
+  pub strict_row : (s : NumFormat) (t : List ℕ) (old new result : ℤ)
+      → Row (crossing (ways.numbers k value) placed status_of place_of) value s t old new result
+      → Row (numbers k) (λ z. z) s t old new result
+  strict_row =
+      row_mapped value IsUnambiguous cause.AmbiguousFormat (ParsesStrictly k value) (ParsesStrictly k (λ z. z)) placed
+      (λ f t q. strict_mapped k value f t q) status_of place_of (λ z. z)
+
+  pub typed_in_mapped : (f : FormatData) (z : ℕ) (t : List ℕ) (q : Result A (DigitsError (TypedError StrictError)))
+      → InDigits (ways.typed_numbers k value) (placed_typed placed) f z t q
+      → InDigits (ways.typed_numbers k (λ z. z)) (placed_typed placed) f z t (mapped value q)
+  typed_in_mapped =
+      digits_mapped value IsTypable (typed.Number cause.AmbiguousFormat) (ParsesTyped k value) (ParsesTyped k (λ z. z))
+      (placed_typed placed) (λ f t q. typed_number_mapped k value f t q)
+
+  pub typed_row : (s : NumFormat) (t : List ℕ) (old new result : ℤ)
+      → Row (crossing (ways.typed_numbers k value) (placed_typed placed) (typed_status_of status_of) (typed_place_of place_of)) value
+      s t old new result → Row (typed_numbers k) (λ z. z) s t old new result
+  typed_row =
+      row_mapped value IsTypable (typed.Number cause.AmbiguousFormat) (ParsesTyped k value) (ParsesTyped k (λ z. z))
+      (placed_typed placed) (λ f t q. typed_number_mapped k value f t q) (typed_status_of status_of) (typed_place_of place_of) (λ z. z)
+
+-- a column is parsed as each of its rows is
+pub values_parsed : (P R : RowParser) (v : Representation) (ty : OffsetType) (s : NumFormat) (c : Texts) (old new : Parsed) (result : ℤ)
+    → ((t : List ℕ) (old new r : ℤ) → P s t old new r → R s t old new r) → ParsesValues P v ty s c old new result
+    → ParsesValues R v ty s c old new result
+values_parsed P R v ty s c old new result up = of_count (row_count v old.values c.validity)
+  where
+    of_count : (n : Option ℕ) → MatchOption n (Fails BadLength old new result) (ParsesRows P v ty s c old new result)
+        → MatchOption n (Fails BadLength old new result) (ParsesRows R v ty s c old new result)
+    of_count None h = h
+    of_count (Some n) h = record {
+      bad_length = h.bad_length;
+      bad_offsets = h.bad_offsets;
+      parsed = λ lengths offsets. (let p = h.parsed lengths offsets in
+          (p.0, λ k below. record { valid = λ has. up _ _ _ _ ((p.1 k below).valid has); null = (p.1 k below).null }));
+    }
 
 module _ {X E : Type 0} (p : Parsing X E) (s : NumFormat) (text : List ℕ) where
   module _ {A : Type 0} (value : A → X) (old new : ℕ) where
@@ -192,35 +264,6 @@ module _ {X E : Type 0} (p : Parsing X E) (s : NumFormat) (text : List ℕ) wher
     into value out old old 0 at (code status)
         (Err status) g record { error = refl; unchanged = refl },
   )
-
--- the units of a decimal are stored for a row of a column
-module _ {E : Type 0} (p : Parsing FixedPoint E) (s : NumFormat) (text : List ℕ) where
-  units_row : (at : ℕ) (y : Result FixedPoint Status) → Gets p (λ d. d) s text 0 at y →
-      MatchResult (mapped (λ d. d.units) y) (λ z. (old : ℤ) → Row p (λ d. d.units) s text old z (pos 0))
-      (λ status. (old : ℤ) → Row p (λ d. d.units) s text old old (code status))
-  units_row at (Ok d) g = row p s text (λ d. d) (λ d. d.units) at (Ok d) g
-  units_row at (Err status) g = row p s text (λ d. d) (λ d. d.units) at (Err status) g
-
-  pub units_latin : (f : FormatData) (zero : ℕ) → IsFormatIn f zero s → (zero ≡ 48) ⊎ (¬ IsUtf8 text) → (q : Result FixedPoint E)
-      → p.Returns f text q → MatchResult (mapped (λ d. d.units) (crossed p.status q))
-      (λ z. (old : ℤ) → Row p (λ d. d.units) s text old z (pos 0)) (λ status. (old : ℤ) → Row p (λ d. d.units) s text old old (code status))
-  units_latin f z given either q read =
-      let at = place_after p.place q 0 in
-      units_row at (crossed p.status q) (gets_latin_same p s text 0 at f z given either q read (crossed p.status q) refl refl)
-
-  pub units_in : (f : FormatData) (zero : ℕ) → IsFormatIn f zero s → ¬ (zero ≡ 48) → IsUtf8 text → (q : Result FixedPoint (DigitsError E))
-      → p.ReturnsIn f zero text q → MatchResult (mapped (λ d. d.units) (crossed (digits_status_of p.status) q))
-      (λ z. (old : ℤ) → Row p (λ d. d.units) s text old z (pos 0)) (λ status. (old : ℤ) → Row p (λ d. d.units) s text old old (code status))
-  units_in f z given other utf8 q read =
-      let at = place_after (digits_place_of p.place) q 0 in
-      let y = crossed (digits_status_of p.status) q in
-      units_row at y (gets_in_same p s text 0 at f z given other utf8 q read y refl refl)
-
--- what holds of the text with 0 to 9 that was taken holds of the one that the set's digits show
-pub is_shown : {X : Type 0} (z : ℕ) (t ascii : List ℕ) (Holds : List ℕ → X → Type 0) (r : Option X) → ¬ (z ≡ 48) → IsUtf8 t
-    → HasOneSet z t → ascii ≡ ascii_of z t → IfSome r (λ x. Holds ascii x) → IfSome r (λ x. IsShown z t (λ y. Holds y x))
-is_shown z t ascii holds None other utf8 set same h = h
-is_shown z t ascii holds (Some x) other utf8 set same h = (other, utf8, set, subst (λ y. holds y x) same h)
 
 -- the same where there may be no such kind
 pub into_any : {A E : Type 0} (p : Kind → Parsing ℤ E) (s : NumFormat) (text : List ℕ) (value : A → ℤ) (old new : ℤ) (at_old at_new : ℕ)

@@ -13,12 +13,10 @@ use Rattle.num_format.specs.Kind.{Kind, kind_of, U8, U16, U32, U64, I8, I16, I32
 use Rattle.num_format.specs.Lookup.{LooksUpTag}
 use Rattle.num_format.specs.Names.{Spells, name_of}
 use Rattle.num_format.specs.Reading.{Refused, denoted}
-use Rattle.num_format.specs.Strict.{ParsesStrictly}
 use Rattle.num_format.specs.StrictError.{StrictError}
 use Rattle.num_format.specs.StrictError.TheVariants as cause
 use Rattle.num_format.specs.Text.{text_of}
 use Rattle.num_format_decimal.specs.FixedPoint.{FixedPoint, fixed_point}
-use Rattle.num_format_decimal.specs.Parsing.{AtScaleResult, DecimalResult}
 use Rattle.num_format_decimal.specs.Text.{decimal_text}
 use Rattle.num_format_decimal.specs.declared.decimal.TheConstants.{MAX_SCALE}
 use Rattle.num_format_decimal.specs.declared.error.DecimalError.{DecimalError}
@@ -26,13 +24,13 @@ use Rattle.num_format_decimal.specs.declared.error.DecimalError.TheVariants as r
 use Rattle.num_format_decimal.specs.declared.parsing.ParseAtScaleError.{ParseAtScaleError}
 use Rattle.num_format_decimal.specs.declared.parsing.ParseAtScaleError.TheVariants.{Parse, Rescale}
 use Rattle.num_format_digits.specs.Digits.{digits_named, in_digits, set_numbered}
-use Rattle.num_format_digits.specs.Parsing.{AtScaleInDigits, DecimalInDigits, ParsesInDigits, TypedAtScaleInDigits, TypedDecimalInDigits}
-use Rattle.num_format_digits.specs.Parsing.{TypedInDigits}
+use Rattle.num_format_digits.specs.Parsing.{InDigits, Way, placed_at_scale, placed_typed}
+use Rattle.num_format_digits.specs.Parsing as ways
 use Rattle.num_format_digits.specs.declared.parsing.DigitsError.{DigitsError}
 use Rattle.num_format_digits.specs.declared.parsing.DigitsError.TheVariants as digits
 use Rattle.num_format_digits.specs.Tags.{TagResult, digits_in}
 use Rattle.num_format_digits.specs.declared.tags.UnknownDigits.{UnknownDigits}
-use Rattle.num_format_typed.specs.Typed.{ParsesTyped, TypedAtScaleResult, TypedDecimalResult}
+use Rattle.num_format_typed.specs.Typed.{placed}
 use Rattle.num_format_typed.specs.declared.typed.TypedError.{TypedError}
 use Rattle.num_format_typed.specs.declared.typed.TypedError.TheVariants as typed
 use Rattle.num_format_c.specs.FormatRef.{Agrees, HasFormat, HasLatin, IsPadded, digits_of, format_of, format_with, grouping_of}
@@ -189,54 +187,34 @@ digits_place_of place (digits.OtherNumeral at) old = at
 digits_place_of place digits.TooLong old = old
 digits_place_of place (digits.Number e) old = place e old
 
+-- how a way of parsing crosses to C, with what it returns of a text in digits
+abbrev pub crossing : {X E : Type 0} → Way X E → ((ℕ → ℕ) → E → E) → (E → Status) → (E → ℕ → ℕ) → Parsing X E
+crossing way placed status place = record {
+  Returns = way.Returns;
+  ReturnsIn = InDigits way placed;
+  status = status;
+  place = place;
+}
+
 -- numbers of a kind, decimals, and decimals of a scale, as they are printed and as people type them
 abbrev pub numbers : Kind → Parsing ℤ StrictError
-numbers k = record {
-  Returns = ParsesStrictly k (λ z. z);
-  ReturnsIn = ParsesInDigits k (λ z. z);
-  status = status_of;
-  place = place_of;
-}
+numbers k = crossing (ways.numbers k (λ z. z)) placed status_of place_of
 
 abbrev pub typed_numbers : Kind → Parsing ℤ (TypedError StrictError)
-typed_numbers k = record {
-  Returns = ParsesTyped k (λ z. z);
-  ReturnsIn = TypedInDigits k (λ z. z);
-  status = typed_status_of status_of;
-  place = typed_place_of place_of;
-}
+typed_numbers k = crossing (ways.typed_numbers k (λ z. z)) (placed_typed placed) (typed_status_of status_of) (typed_place_of place_of)
 
 abbrev pub decimals : Parsing FixedPoint StrictError
-decimals = record {
-  Returns = DecimalResult;
-  ReturnsIn = DecimalInDigits;
-  status = status_of;
-  place = place_of;
-}
+decimals = crossing ways.decimals placed status_of place_of
 
 abbrev pub typed_decimals : Parsing FixedPoint (TypedError StrictError)
-typed_decimals = record {
-  Returns = TypedDecimalResult;
-  ReturnsIn = TypedDecimalInDigits;
-  status = typed_status_of status_of;
-  place = typed_place_of place_of;
-}
+typed_decimals = crossing ways.typed_decimals (placed_typed placed) (typed_status_of status_of) (typed_place_of place_of)
 
 abbrev pub at_scale : (scale : ℕ) → Parsing FixedPoint ParseAtScaleError
-at_scale scale = record {
-  Returns = λ f t. AtScaleResult f t scale;
-  ReturnsIn = AtScaleInDigits scale;
-  status = at_scale_status_of;
-  place = at_scale_place_of;
-}
+at_scale scale = crossing (ways.at_scale scale) placed_at_scale at_scale_status_of at_scale_place_of
 
 abbrev pub typed_at_scale : (scale : ℕ) → Parsing FixedPoint (TypedError ParseAtScaleError)
-typed_at_scale scale = record {
-  Returns = λ f t. TypedAtScaleResult f t scale;
-  ReturnsIn = TypedAtScaleInDigits scale;
-  status = typed_status_of at_scale_status_of;
-  place = typed_place_of at_scale_place_of;
-}
+typed_at_scale scale = crossing (ways.typed_at_scale scale) (placed_typed placed_at_scale) (typed_status_of at_scale_status_of)
+    (typed_place_of at_scale_place_of)
 
 -- a result with the status in place of the error, and the place after it
 abbrev pub crossed : {X E : Type 0} → (E → Status) → Result X E → Result X Status

@@ -1,6 +1,6 @@
 -- What the calls of C do with columns.
 use Rattle.std.specs.Prelude.{◌≡◌, ◌≢◌, ℕ, ◌+◌, ◌^◌, ◌<◌, ◌≤◌, min, ℤ, pos, List, length, slice_index_or, slice_range}
-use Rattle.std.specs.Prelude.{Option, Result, IsTrue, IsUtf8, MatchOption, MatchResult}
+use Rattle.std.specs.Prelude.{Option, Result, IsTrue, MatchOption, MatchResult}
 use Rattle.num_format.specs.Format.{FormatData}
 use Rattle.std.specs.Int.{w128}
 use Rattle.num_format.specs.Kind.{I128, Kind}
@@ -12,7 +12,7 @@ use Rattle.num_format_decimal.specs.FixedPoint.{FixedPoint, fixed_point}
 use Rattle.num_format_decimal.specs.Marks.{MarksDecimals}
 use Rattle.num_format_decimal.specs.Text.{decimal_text}
 use Rattle.num_format_decimal.specs.declared.decimal.TheConstants.{MAX_SCALE}
-use Rattle.num_format_digits.specs.Digits.{HasOneSet, ascii_of, in_digits}
+use Rattle.num_format_digits.specs.Digits.{in_digits}
 use Rattle.num_format_typed.specs.Typed.{IsTypable}
 use Rattle.num_format_c.specs.Calls.{Crosses, Fails, Into, Parsing, ParsesInto, numbers, typed_numbers}
 use Rattle.num_format_c.specs.FormatRef.{HasFormat, HasLatin, digits_of, format_of}
@@ -123,10 +123,6 @@ RowParser = NumFormat → List ℕ → (old new result : ℤ) → Type 0
 -- what a call that stores one number does but for the place of an unexpected byte
 abbrev pub Row : {X E : Type 0} → Parsing X E → (X → ℤ) → RowParser
 Row p value s text old new result = (at : ℕ) × Into p value s text old new 0 at result
-
--- a text has digits of one set that is not 0 to 9, and something holds of it with 0 to 9 for them
-abbrev pub IsShown : (zero : ℕ) → List ℕ → (List ℕ → Type 0) → Type 0
-IsShown z t Holds = (¬ (z ≡ 48)) × IsUtf8 t × HasOneSet z t × Holds (ascii_of z t)
 
 -- what it writes: the bytes of the values, and a status of each row
 pub record Parsed : Type 0 where

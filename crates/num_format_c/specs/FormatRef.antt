@@ -76,10 +76,6 @@ format_of s = format_with (separator_of s) (unwrap_or (grouping_of s.grouping) P
 abbrev pub IsFormatIn : FormatData → (zero : ℕ) → NumFormat → Type 0
 IsFormatIn f z s = HasFormat s × (z ≡ digits_of s) × (f ≡ format_of s)
 
--- the format of a parser, a format and a zero are those that a struct has
-abbrev pub IsParserIn : (parser f : FormatData) → (zero : ℕ) → NumFormat → Type 0
-IsParserIn parser f z s = IsFormatIn parser z s × IsFormatIn f z s
-
 -- a format is the one that a struct has, whose digits are 0 to 9
 abbrev pub IsFormatOf : FormatData → NumFormat → Type 0
 IsFormatOf f s = HasLatin s × (f ≡ format_of s)

@@ -1,28 +1,27 @@
 //! What the calls for columns do, with Rust's types.
 ghost use Rattle.std.specs.Prelude.{◌≡◌, ◌≢◌, ℕ, ℤ, ◌+◌, ◌*◌, ◌<◌, ◌≤◌, min, length, pos, IsTrue, MatchOption};
-ghost use Rattle.std.specs.Prelude.{IfSome, MatchResult, Ok};
-ghost use Rattle.num_format.specs.Strict.{IsUnambiguous, ParsesStrictly};
+ghost use Rattle.std.specs.Prelude.{MatchResult};
+ghost use Rattle.num_format.specs.Strict.{IsUnambiguous};
 ghost use Rattle.num_format.specs.Text.{text_of};
 ghost use Rattle.num_format_decimal.specs.FixedPoint.{fixed_point};
 ghost use Rattle.num_format_decimal.specs.declared.buffer.TheConstants.{MAX_DECIMAL_LEN};
 ghost use Rattle.num_format_decimal.specs.declared.decimal.TheConstants.{MAX_SCALE};
 ghost use Rattle.num_format_digits.specs.Digits.{in_digits};
 ghost use Rattle.num_format_digits.specs.declared.printing.TheConstants.{MAX_DIGIT_TEXT_LEN};
-ghost use Rattle.num_format_c.specs.Calls.{Fails, ParsesInto, at_scale, code, crossed, mapped, numbers, returned};
+ghost use Rattle.num_format_c.specs.Calls.{Fails, ParsesInto, at_scale, code, crossing, numbers, returned};
 ghost use Rattle.num_format_c.specs.Calls.{typed_at_scale, typed_numbers};
-ghost use Rattle.num_format_c.specs.Columns.{AreParsed, HasLengths, HasOffsets, IsShown, Measures, MeasuresDecimals};
+ghost use Rattle.num_format_c.specs.Columns.{AreParsed, HasLengths, HasOffsets, Measures, MeasuresDecimals};
 ghost use Rattle.num_format_c.specs.Columns.{MeasuresNumbers, MeasuresValues, ParsesDecimals, ParsesInMode};
 ghost use Rattle.num_format_c.specs.Columns.{ParsesNumbers, ParsesRow, ParsesTypedInto, ParsesUnder, ParsesValues};
 ghost use Rattle.num_format_c.specs.Columns.{PrintsDecimals, PrintsNumbers, PrintsRows, PrintsValues, Row, RowParser};
 ghost use Rattle.num_format_c.specs.Columns.{TypesDecimals};
 ghost use Rattle.num_format_c.specs.Columns.{decimal_at, decimal_units, rows_in, to_parsed, to_printed};
-ghost use Rattle.num_format_c.specs.FormatRef.{IsFormatIn, IsFormatOf, IsParserIn, format_with};
+ghost use Rattle.num_format_c.specs.FormatRef.{IsFormatIn, IsFormatOf, format_with};
 ghost use Rattle.num_format_c.specs.Layout.{IsEnough, MatchType, number_at, row_bytes, row_count, row_text, texts_of};
 ghost use Rattle.num_format_c.specs.Layout.{value_type_of};
 ghost use Rattle.num_format_c.specs.declared.status.Status.TheVariants.{BadType};
 ghost use Rattle.num_format_decimal.specs.Marks.{MarksDecimals};
-ghost use Rattle.num_format_decimal.specs.Parsing.{AtScaleResult};
-ghost use Rattle.num_format_typed.specs.Typed.{IsTypable, ParsesTyped, TypedAtScaleResult};
+ghost use Rattle.num_format_typed.specs.Typed.{IsTypable};
 
 use crate::calls::{self, in_others};
 use crate::format::{FormatRef, NumFormat};
@@ -34,9 +33,9 @@ use crate::status::{Cause, Status, crossed};
 use crate::wide::scale_of;
 use num_format::Format;
 use num_format::parsing::StrictParser;
-use num_format_decimal::{Decimal, DecimalBuffer, DecimalParser, MAX_DECIMAL_LEN, marks_decimals};
+use num_format_decimal::{Decimal, DecimalBuffer, DecimalParser, MAX_DECIMAL_LEN};
 use num_format_digits::printing::MAX_DIGIT_TEXT_LEN;
-use num_format_digits::{DigitText, Digits};
+use num_format_digits::{AtScale, DigitText, Digits, TextParser};
 use num_format_int::buffer::PutFront;
 use num_format_int::to_formatted_str::put_text;
 use num_format_typed::TypedParser;
@@ -379,8 +378,35 @@ fn measure_rows<P: Printer>(printer: &P, len: &mut usize) -> Result<i32, Status>
     Ok(0)
 }
 
+/// What a parser returns of a row, as a value of the column: a number itself, or the units of a decimal.
+trait IntoValue<N: Value> {
+    ghost use Rattle.std.specs.Prelude.{ℤ};
+
+    ghost number: { Self → ℤ };
+
+    /// Returns the value.
+    fn into_value(self) -> N
+        ensures { N.value result ≡ number self };
+}
+
+impl<N: Value> IntoValue<N> for N {
+    ghost number = { N.value };
+
+    fn into_value(self) -> N {
+        self
+    }
+}
+
+impl IntoValue<i128> for Decimal {
+    ghost number = { λ d. d.units };
+
+    fn into_value(self) -> i128 {
+        self.units()
+    }
+}
+
 /// How a row of a column is parsed.
-trait Parser<N: Value> {
+trait Parser<N: Value, T: IntoValue<N>> {
     ghost use Rattle.num_format_c.specs.declared.format.NumFormat.{NumFormat};
 
     ghost IsFor: { Self → NumFormat → Type 0 };
@@ -388,14 +414,14 @@ trait Parser<N: Value> {
     ghost Parses: { Self → RowParser };
 
     /// Returns the number of a text, or why there is none.
-    fn parse(&self, text: &[u8]) -> Result<N, Status>
+    fn parse(&self, text: &[u8]) -> Result<T, Status>
         ensures { (s : NumFormat) → IsFor self.now s → MatchResult result
-            (λ number. (old : ℤ) → Parses self.now s text.now old (N.value number) (pos 0))
+            (λ number. (old : ℤ) → Parses self.now s text.now old (T.number number) (pos 0))
             (λ status. (old : ℤ) → Parses self.now s text.now old old (code status)) };
 }
 
 /// By a format alone, parsing ignores characters that are not numeric.
-impl<'a, N: Value> Parser<N> for FormatRef<'a> {
+impl<'a, N: Value> Parser<N, N> for FormatRef<'a> {
     ghost IsFor = { λ h. IsFormatOf (format_with h.separator h.grouping h.minus_sign h.decimal_mark) };
 
     ghost Parses = { λ _. ParsesInto N.kind };
@@ -405,183 +431,50 @@ impl<'a, N: Value> Parser<N> for FormatRef<'a> {
     }
 }
 
-impl<'a, N: Value, F: Format> Parser<N> for StrictParser<'a, F> {
-    ghost IsFor = { λ p s. IsFormatIn p 48 s };
-
-    ghost Parses = { λ _. Row (numbers N.kind) (λ z. z) };
-
-    fn parse(&self, text: &[u8]) -> Result<N, Status> {
-        crossed(self.parse_bytes(text), &mut 0)
-    }
-}
-
-impl<'a, N: Value, F: Format> Parser<N> for TypedParser<'a, F> {
-    ghost IsFor = { λ p s. IsFormatIn p 48 s };
-
-    ghost Parses = { λ _. Row (typed_numbers N.kind) (λ z. z) };
-
-    fn parse(&self, text: &[u8]) -> Result<N, Status> {
-        crossed(self.parse_bytes(text), &mut 0)
-    }
-}
-
-/// Parsing of texts in `0` to `9`, without causes.
-trait AsciiParser<T> {
-    ghost use Rattle.std.specs.Prelude.{List, ℕ};
-
-    ghost Accepts: { Self → List ℕ → T → Type 0 };
-
-    /// Returns the number for which a text is canonical, or `None` if it is refused.
-    fn read(&self, ascii: &[u8]) -> Option<T>
-        ensures { IfSome result (λ x. Accepts self.now ascii.now x) };
-}
-
-impl<'a, N: Value, F: Format> AsciiParser<N> for StrictParser<'a, F> {
-    ghost Accepts = { λ p t n. ParsesStrictly N.kind N.value p t (Ok n) };
-
-    fn read(&self, ascii: &[u8]) -> Option<N> {
-        self.number(ascii)
-    }
-}
-
-impl<'a, N: Value, F: Format> AsciiParser<N> for TypedParser<'a, F> {
-    ghost Accepts = { λ p t n. ParsesTyped N.kind N.value p t (Ok n) };
-
-    fn read(&self, ascii: &[u8]) -> Option<N> {
-        match self.parse_bytes(ascii) {
-            Ok(number) => Some(number),
-            Err(_) => None,
-        }
-    }
-}
-
-impl<'a, F: Format> AsciiParser<Decimal> for AtScale<DigitParser<'a, DecimalParser<'a, F>, F>> {
-    ghost Accepts = { λ p t d. AtScaleResult p.parser.parser t p.scale (Ok d) };
-
-    fn read(&self, ascii: &[u8]) -> Option<Decimal> {
-        let parser = &self.parser.parser;
-        parser.parse_bytes_at_scale(ascii, self.scale).ok()
-    }
-}
-
-impl<'a, F: Format> AsciiParser<Decimal> for AtScale<DigitParser<'a, TypedParser<'a, F>, F>> {
-    ghost Accepts = { λ p t d. TypedAtScaleResult p.parser.parser t p.scale (Ok d) };
-
-    fn read(&self, ascii: &[u8]) -> Option<Decimal> {
-        let parser = &self.parser.parser;
-        parser.parse_bytes_at_scale(ascii, self.scale).ok()
-    }
-}
-
-/// Returns the number of a text in other digits than `0` to `9`, or `None` where only parsing in the set can tell.
-#[inline(always)]
-fn shown<T, P: AsciiParser<T>>(parser: &P, digits: Digits, text: &[u8]) -> Option<T>
-    ensures { IfSome result (λ x. IsShown digits text.now (λ t. P.Accepts parser.now t x)) }
-{
-    if digits.is_latin() {
-        return None;
-    }
-    shown_in(parser, digits, text)
-}
-
-/// Does the same in other digits. It is a call, so that parsing in `0` to `9` clears no array.
-#[inline(never)]
-fn shown_in<T, P: AsciiParser<T>>(parser: &P, digits: Digits, text: &[u8]) -> Option<T>
-    requires { ¬ (digits ≡ 48) }
-    ensures { IfSome result (λ x. IsShown digits text.now (λ t. P.Accepts parser.now t x)) }
-{
-    let mut array = [0; MAX_DECIMAL_LEN];
-    let len = digits.take_plain(text, &mut array)?;
-    parser.read(&array[..len])
-}
-
-/// A parser of texts in `0` to `9`, and its format and a digit set, by which texts in other digits are parsed.
+/// Parses texts in `0` to `9`.
 #[derive(Drop)]
-struct DigitParser<'a, P, F: Format> {
+struct LatinParser<P> {
     parser: P,
-    format: &'a F,
+}
+
+impl<N: Value, T: IntoValue<N>, P: TextParser<T>> Parser<N, T> for LatinParser<P>
+where
+    P::Error: Cause,
+{
+    ghost IsFor = { λ p s. IsFormatIn (P.format p.parser) 48 s };
+
+    ghost Parses = { λ p. Row (crossing (P.way p.parser) P.Error.placed P.Error.status_of P.Error.place_of) T.number };
+
+    fn parse(&self, text: &[u8]) -> Result<T, Status> {
+        crossed(self.parser.parse_text(text), &mut 0)
+    }
+}
+
+/// Parses texts in other digits than `0` to `9`.
+#[derive(Drop)]
+struct DigitParser<P> {
+    parser: P,
     digits: Digits,
 }
 
-impl<'a, N: Value, F: Format> Parser<N> for DigitParser<'a, StrictParser<'a, F>, F> {
-    ghost IsFor = { λ p s. IsParserIn p.parser (F.answers p.format.now) p.digits s };
-
-    ghost Parses = { λ _. Row (numbers N.kind) (λ z. z) };
-
-    fn parse(&self, text: &[u8]) -> Result<N, Status> {
-        if let Some(number) = shown(&self.parser, self.digits, text) {
-            return Ok(number);
-        }
-        match in_others(text, self.digits) {
-            None => crossed(self.parser.parse_bytes(text), &mut 0),
-            Some(text) => crossed(self.digits.parse_strict(text, self.format), &mut 0),
-        }
-    }
-}
-
-impl<'a, N: Value, F: Format> Parser<N> for DigitParser<'a, TypedParser<'a, F>, F> {
-    ghost IsFor = { λ p s. IsParserIn p.parser (F.answers p.format.now) p.digits s };
-
-    ghost Parses = { λ _. Row (typed_numbers N.kind) (λ z. z) };
-
-    fn parse(&self, text: &[u8]) -> Result<N, Status> {
-        if let Some(number) = shown(&self.parser, self.digits, text) {
-            return Ok(number);
-        }
-        match in_others(text, self.digits) {
-            None => crossed(self.parser.parse_bytes(text), &mut 0),
-            Some(text) => crossed(self.digits.parse_typed(text, self.format), &mut 0),
-        }
-    }
-}
-
-/// Parsing of decimals of one scale.
-#[derive(Drop)]
-struct AtScale<P> {
-    parser: P,
-    scale: u8,
-}
-
-impl<'a, F: Format> Parser<i128> for AtScale<DigitParser<'a, DecimalParser<'a, F>, F>> {
-    ghost IsFor = { λ p s. IsParserIn p.parser.parser (F.answers p.parser.format.now) p.parser.digits s };
-
-    ghost Parses = { λ p. Row (at_scale p.scale) (λ d. d.units) };
-
-    fn parse(&self, text: &[u8]) -> Result<i128, Status> {
-        let by = &self.parser;
-        if let Some(decimal) = shown(self, by.digits, text) {
-            return Ok(decimal.units());
-        }
-        match in_others(text, by.digits) {
-            None => units(by.parser.parse_bytes_at_scale(text, self.scale)),
-            Some(text) => units(by.digits.parse_at_scale(text, self.scale, by.format)),
-        }
-    }
-}
-
-impl<'a, F: Format> Parser<i128> for AtScale<DigitParser<'a, TypedParser<'a, F>, F>> {
-    ghost IsFor = { λ p s. IsParserIn p.parser.parser (F.answers p.parser.format.now) p.parser.digits s };
-
-    ghost Parses = { λ p. Row (typed_at_scale p.scale) (λ d. d.units) };
-
-    fn parse(&self, text: &[u8]) -> Result<i128, Status> {
-        let by = &self.parser;
-        if let Some(decimal) = shown(self, by.digits, text) {
-            return Ok(decimal.units());
-        }
-        match in_others(text, by.digits) {
-            None => units(by.parser.parse_bytes_at_scale(text, self.scale)),
-            Some(text) => units(by.digits.parse_typed_at_scale(text, self.scale, by.format)),
-        }
-    }
-}
-
-/// Returns the units of a decimal that was parsed, or a status for an error.
-#[inline(always)]
-fn units<E: Cause>(parsed: Result<Decimal, E>) -> Result<i128, Status>
-    ensures { result ≡ mapped (λ d. d.units) (crossed E.status_of parsed) }
+impl<N: Value, T: IntoValue<N>, P: TextParser<T>> Parser<N, T> for DigitParser<P>
+where
+    P::Error: Cause,
 {
-    Ok(crossed(parsed, &mut 0)?.units())
+    ghost IsFor = { λ p s. IsFormatIn (P.format p.parser) p.digits s × (P.way p.parser).Takes (P.format p.parser)
+        × (¬ (p.digits ≡ 48)) };
+
+    ghost Parses = { λ p. Row (crossing (P.way p.parser) P.Error.placed P.Error.status_of P.Error.place_of) T.number };
+
+    fn parse(&self, text: &[u8]) -> Result<T, Status> {
+        if let Some(number) = self.digits.parse_shown_by(text, &self.parser) {
+            return Ok(number);
+        }
+        match in_others(text, self.digits) {
+            None => crossed(self.parser.parse_text(text), &mut 0),
+            Some(text) => crossed(self.digits.parse_by(text, &self.parser), &mut 0),
+        }
+    }
 }
 
 /// Parses the rows of a column of numbers, and returns 0.
@@ -619,7 +512,7 @@ fn parse_numbers<N: Value>(
         TYPED => parse_typed::<N>(format, offset_type, texts, values, statuses),
         _ => {
             let format = FormatRef::latin(format)?;
-            parse_column::<N, _>(&format, offset_type, texts, values, statuses)
+            parse_column::<N, N, _>(&format, offset_type, texts, values, statuses)
         }
     }
 }
@@ -636,16 +529,10 @@ fn parse_strictly<N: Value>(
         (to_parsed values.old statuses.old) (to_parsed values.new statuses.new) (returned result) }
 {
     let (format, digits) = FormatRef::new(format)?;
-    let parser = StrictParser::new(&format).or(Err(Status::AmbiguousFormat))?;
-    if digits.is_latin() {
-        return parse_column::<N, _>(&parser, offset_type, texts, values, statuses);
-    }
-    let parser = DigitParser {
-        parser,
-        format: &format,
-        digits,
+    let Ok(parser) = StrictParser::new(&format) else {
+        return Err(Status::AmbiguousFormat);
     };
-    parse_column::<N, _>(&parser, offset_type, texts, values, statuses)
+    parse_in::<N, N, _>(parser, digits, offset_type, texts, values, statuses)
 }
 
 /// Parses the rows of a column of numbers as people type them.
@@ -660,16 +547,10 @@ fn parse_typed<N: Value>(
         (to_parsed values.old statuses.old) (to_parsed values.new statuses.new) (returned result) }
 {
     let (format, digits) = FormatRef::new(format)?;
-    let parser = TypedParser::new(&format).or(Err(Status::AmbiguousFormat))?;
-    if digits.is_latin() {
-        return parse_column::<N, _>(&parser, offset_type, texts, values, statuses);
-    }
-    let parser = DigitParser {
-        parser,
-        format: &format,
-        digits,
+    let Ok(parser) = TypedParser::new(&format) else {
+        return Err(Status::AmbiguousFormat);
     };
-    parse_column::<N, _>(&parser, offset_type, texts, values, statuses)
+    parse_in::<N, N, _>(parser, digits, offset_type, texts, values, statuses)
 }
 
 /// Parses a text as people type it as a number of a type, writes the bytes of the number, and returns 0.
@@ -727,14 +608,11 @@ pub fn parse_decimals(
     let scale = scale_of(scale)?;
     let offset_type = OffsetType::from_code(offset_code).ok_or(Status::BadType)?;
     let (format, digits) = FormatRef::new(format)?;
-    let parser = DecimalParser::new(&format).or(Err(Status::AmbiguousFormat))?;
-    let parser = DigitParser {
-        parser,
-        format: &format,
-        digits,
+    let Ok(parser) = DecimalParser::new(&format) else {
+        return Err(Status::AmbiguousFormat);
     };
     let parser = AtScale { parser, scale };
-    parse_column::<i128, _>(&parser, offset_type, texts, units, statuses)
+    parse_in::<i128, Decimal, _>(parser, digits, offset_type, texts, units, statuses)
 }
 
 /// Parses the rows of a column of decimals as people type them, and returns 0.
@@ -755,21 +633,40 @@ pub fn parse_typed_decimals(
     let Ok(parser) = TypedParser::new(&format) else {
         return Err(Status::AmbiguousFormat);
     };
-    if !marks_decimals(&format) {
+    if !parser.marks_decimals() {
         return Err(Status::AmbiguousFormat);
     }
-    let parser = DigitParser {
-        parser,
-        format: &format,
-        digits,
-    };
-    let parser = AtScale { parser, scale };
-    parse_column::<i128, _>(&parser, offset_type, texts, units, statuses)
+    let typed = AtScale { parser, scale };
+    parse_in::<i128, Decimal, _>(typed, digits, offset_type, texts, units, statuses)
+}
+
+/// Parses the rows of a column in a digit set, and returns 0.
+fn parse_in<N: Value, T: IntoValue<N>, P: TextParser<T> + Drop>(
+    parser: P,
+    digits: Digits,
+    offset_type: OffsetType,
+    texts: &Texts,
+    values: &mut [u8],
+    statuses: &mut [i32],
+) -> Result<i32, Status>
+where
+    P::Error: Cause,
+    ensures { (s : NumFormat) → IsFormatIn (P.format parser) digits s → (P.way parser).Takes (P.format parser)
+        → ParsesValues (Row (crossing (P.way parser) P.Error.placed P.Error.status_of P.Error.place_of) T.number)
+        N.repr offset_type s texts.now
+        (to_parsed values.old statuses.old) (to_parsed values.new statuses.new) (returned result) }
+{
+    if digits.is_latin() {
+        let parser = LatinParser { parser };
+        return parse_column::<N, T, _>(&parser, offset_type, texts, values, statuses);
+    }
+    let parser = DigitParser { parser, digits };
+    parse_column::<N, T, _>(&parser, offset_type, texts, values, statuses)
 }
 
 /// Parses the rows of a column, and returns 0. It is a call, so that its loop has the registers for itself.
 #[inline(never)]
-fn parse_column<N: Value, P: Parser<N>>(
+fn parse_column<N: Value, T: IntoValue<N>, P: Parser<N, T>>(
     parser: &P,
     offset_type: OffsetType,
     texts: &Texts,
@@ -790,12 +687,12 @@ fn parse_column<N: Value, P: Parser<N>>(
     if !offset_type.are_offsets(n, limit, texts.offsets) {
         return Err(Status::BadOffsets);
     }
-    parse_rows::<N, P>(parser, offset_type, texts, values, statuses);
+    parse_rows::<N, T, P>(parser, offset_type, texts, values, statuses);
     Ok(0)
 }
 
 /// Parses each row of a column.
-fn parse_rows<N: Value, P: Parser<N>>(
+fn parse_rows<N: Value, T: IntoValue<N>, P: Parser<N, T>>(
     parser: &P,
     offset_type: OffsetType,
     texts: &Texts,
@@ -813,13 +710,13 @@ fn parse_rows<N: Value, P: Parser<N>>(
         let start = offset_type.get(texts.offsets, row);
         let text = &texts.bytes[start..offset_type.get(texts.offsets, row + 1)];
         let is_valid = texts.validity.is_valid(row);
-        statuses[row] = parse_row::<N, P>(parser, text, is_valid, values, row);
+        statuses[row] = parse_row::<N, T, P>(parser, text, is_valid, values, row);
     }
 }
 
 /// Parses a row of a column, if it has a value, and returns its status, which is 0 if it has none.
 #[inline(always)]
-fn parse_row<N: Value, P: Parser<N>>(
+fn parse_row<N: Value, T: IntoValue<N>, P: Parser<N, T>>(
     parser: &P,
     text: &[u8],
     is_valid: bool,
@@ -837,7 +734,7 @@ fn parse_row<N: Value, P: Parser<N>>(
     }
     match parser.parse(text) {
         Ok(number) => {
-            set_value(values, row, number);
+            set_value(values, row, number.into_value());
             0
         }
         Err(status) => status.code(),
