@@ -12,9 +12,9 @@ use Rattle.num_format_digits.specs.Parsing.{InDigits, ParsesDigits, Way, placed_
 use Rattle.num_format_digits.specs.Parsing as ways
 use Rattle.num_format_digits.specs.declared.parsing.DigitsError.{DigitsError}
 use Rattle.num_format_digits.specs.declared.parsing.DigitsError.TheVariants as digits
-use Rattle.num_format_typed.specs.declared.typed.TypedError.TheVariants as typed
+use Rattle.num_format_typed.specs.declared.error.TypedError.TheVariants as typed
 use Rattle.num_format_typed.specs.Typed.{IsTypable, ParsesTyped, TypedResult, map_error, placed}
-use Rattle.num_format_typed.specs.declared.typed.TypedError.{TypedError}
+use Rattle.num_format_typed.specs.declared.error.TypedError.{TypedError}
 use Rattle.num_format_c.specs.Calls.{Crosses, Fails, Gets, Into, Parsing, Stores, code, crossed, crossing, digits_place_of}
 use Rattle.num_format_c.specs.Calls.{digits_status_of, mapped, numbers, place_after, place_of, status_of, typed_numbers, typed_place_of}
 use Rattle.num_format_c.specs.Calls.{typed_status_of}

@@ -31,8 +31,8 @@ use Rattle.num_format_digits.specs.declared.parsing.DigitsError.TheVariants as d
 use Rattle.num_format_digits.specs.Tags.{TagResult, digits_in}
 use Rattle.num_format_digits.specs.declared.tags.UnknownDigits.{UnknownDigits}
 use Rattle.num_format_typed.specs.Typed.{placed}
-use Rattle.num_format_typed.specs.declared.typed.TypedError.{TypedError}
-use Rattle.num_format_typed.specs.declared.typed.TypedError.TheVariants as typed
+use Rattle.num_format_typed.specs.declared.error.TypedError.{TypedError}
+use Rattle.num_format_typed.specs.declared.error.TypedError.TheVariants as typed
 use Rattle.num_format_c.specs.FormatRef.{Agrees, HasFormat, HasLatin, IsPadded, digits_of, format_of, format_with, grouping_of}
 use Rattle.num_format_c.specs.declared.format.NumFormat.{NumFormat}
 use Rattle.num_format_c.specs.declared.status.Status.{Status}

@@ -14,8 +14,8 @@ use Rattle.num_format_decimal.specs.declared.parsing.ParseAtScaleError.{ParseAtS
 use Rattle.num_format_decimal.specs.declared.parsing.ParseAtScaleError.TheVariants.{Parse, Rescale}
 use Rattle.num_format_typed.specs.Rewriting.{bytes_within}
 use Rattle.num_format_typed.specs.Typed.{IsTypable, ParsesTyped, TypedAtScaleResult, TypedDecimalResult, placed}
-use Rattle.num_format_typed.specs.declared.typed.TypedError.{TypedError}
-use Rattle.num_format_typed.specs.declared.typed.TypedError.TheVariants as typed
+use Rattle.num_format_typed.specs.declared.error.TypedError.{TypedError}
+use Rattle.num_format_typed.specs.declared.error.TypedError.TheVariants as typed
 use Rattle.num_format_digits.specs.Digits.{HasOneSet, ascii_of, other_from, plain_char}
 use Rattle.num_format_digits.specs.declared.parsing.DigitsError.{DigitsError}
 use Rattle.num_format_digits.specs.declared.parsing.DigitsError.TheVariants.{OtherNumeral, TooLong, Number}

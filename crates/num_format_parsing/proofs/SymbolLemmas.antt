@@ -1,16 +1,21 @@
 -- The symbols of a format that is not ambiguous.
 use Rattle.std.proofs.Common.{◌≡◌, ℕ, ◌<◌, inl, inr, Bool, true, false, not, get_or, List, [], ◌∷◌, length, refl, ap, ◌∙◌, sym, arith}
 use Rattle.std.proofs.Common.{IsUtf8}
-use Rattle.std.specs.Prelude.{◌↔◌, IsTrue}
+use Rattle.std.specs.Prelude.{◌&&◌, ◌↔◌, Contains, IsTrue}
 use Rattle.std.specs.Char.{is_ascii, is_ascii_digit}
 use Rattle.std.specs.List.{list_all, list_any}
-use Rattle.std.proofs.lemmas.Bool.{both_ways, cases_Bool, or_from, or_left}
+use Rattle.std.specs.Cmp.{first_so, second_so}
+use Rattle.std.proofs.lemmas.Bool.{both_ways, cases_Bool, not-true, or_from, or_left}
+use Rattle.std.proofs.lemmas.List.Elements.{All-contains}
+use Rattle.std.proofs.lemmas.List.Sums.{AllPass-from_list_all}
+use lib.Utf8.{encode}
 use Rattle.std.specs.Str.{chars}
 use Rattle.num_format_text.specs.Format.{FormatData}
 use Rattle.num_format_int.specs.Grouped.{printed_separator}
 use Rattle.num_format_parsing.specs.Reading.{is_other_numeral}
 use Rattle.num_format_parsing.specs.Shapes.{HasPlainSymbols}
 use Rattle.num_format_parsing.specs.Strict.{HasNoNumeral, IsUnambiguous}
+use Rattle.num_format_parsing.specs.Symbols.{locale_separators, locale_signs}
 use Rattle.num_format_parsing.proofs.DigitLemmas.{text_digits-bytes, text_digits-none, text_digits-some}
 use Rattle.num_format_parsing.proofs.NumberLemmas.{no_other-bytes, one-byte}
 use Rattle.num_format_parsing.proofs.ReadingLemmas.{ucd_category}
@@ -47,16 +52,34 @@ decided-byte t b utf8 one ascii same =
       )
     ]
 
--- symbols that many locales have, in UTF-8: narrow no-break space, no-break space, right single quotation mark, and minus sign
-pub common-symbols : HasNoNumeral (226 ∷ 128 ∷ 175 ∷ []) × HasNoNumeral (194 ∷ 160 ∷ []) × HasNoNumeral (226 ∷ 128 ∷ 153 ∷ [])
-    × HasNoNumeral (226 ∷ 136 ∷ 146 ∷ [])
-unfolding chars ucd_category
-common-symbols = (
-  record { no_digit = refl; no_other = refl },
-  record { no_digit = refl; no_other = refl },
-  record { no_digit = refl; no_other = refl },
-  record { no_digit = refl; no_other = refl },
-)
+-- a text has no numeral, as a test
+abbrev pub is_bare : List ℕ → Bool
+is_bare t = not (list_any is_ascii_digit (chars t)) && not (list_any is_other_numeral (chars t))
+
+pub bare : (t : List ℕ) → is_bare t ≡ true → HasNoNumeral t
+bare t passed = record {
+  no_digit = text_digits-none (chars t) (not-true _ (first_so _ _ passed));
+  no_other = not-true _ (second_so _ _ passed);
+}
+
+-- an element of a list, each of which passes a test
+pub of_all : (p : List ℕ → Bool) (xs : List (List ℕ)) (x : List ℕ) → list_all p xs ≡ true → Contains xs x → p x ≡ true
+of_all p xs x all among = All-contains (λ x. p x ≡ true) xs x (AllPass-from_list_all p xs all) among
+
+-- no symbol of a locale has one
+signs_bare : list_all (λ t. is_bare t) locale_signs ≡ true
+unfolding chars encode ucd_category
+signs_bare = refl
+
+separators_bare : list_all (λ t. is_bare t) locale_separators ≡ true
+unfolding chars encode ucd_category
+separators_bare = refl
+
+pub locale-sign : (t : List ℕ) → Contains locale_signs t → HasNoNumeral t
+locale-sign t is = bare t (of_all (λ t. is_bare t) locale_signs t signs_bare is)
+
+pub locale-separator : (t : List ℕ) → Contains locale_separators t → HasNoNumeral t
+locale-separator t is = bare t (of_all (λ t. is_bare t) locale_separators t separators_bare is)
 
 -- a list that is not empty has an element
 pub some_first : (t : List ℕ) → ¬ (t ≡ []) → 0 < length t

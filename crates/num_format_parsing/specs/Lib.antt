@@ -5,3 +5,4 @@ pub mod Readable
 pub mod Reading
 pub mod Shapes
 pub mod Strict
+pub mod Symbols

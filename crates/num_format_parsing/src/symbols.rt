@@ -1,11 +1,12 @@
 //! The symbols of a format: whether they have numerals, and which sign a text has.
-ghost use Rattle.std.specs.Prelude.{◌≡◌, ◌↔◌, IsTrue};
+ghost use Rattle.std.specs.Prelude.{◌≡◌, ◌↔◌, Contains, IsTrue};
 ghost use Rattle.std.specs.List.{list_any};
 ghost use Rattle.std.specs.Str.{chars};
 ghost use Rattle.num_format_text.specs.Format.{FormatData};
 ghost use Rattle.num_format_parsing.specs.Reading.{is_other_numeral};
 ghost use Rattle.num_format_parsing.specs.Strict.{HasNoNumeral};
 ghost use Rattle.num_format_parsing.specs.Shapes.{HasPlainSymbols, HasSign};
+ghost use Rattle.num_format_parsing.specs.Symbols.{locale_separators, locale_signs, marked_signs, short_signs};
 
 use crate::bytes::{has_digit, is_ascii, is_prefix};
 use unicode::properties::GeneralCategory;
@@ -47,15 +48,64 @@ pub(crate) fn is_simple(symbol: &str) -> bool
     if bytes.len() == 1 && is_ascii(bytes) {
         return !bytes[0].is_ascii_digit();
     }
-    is_common(symbol) || !has_digit(bytes) && is_ascii(bytes)
+    is_of_locale(symbol) || !has_digit(bytes) && is_ascii(bytes)
 }
 
-/// Returns whether a symbol is one that many locales have: a no-break space, narrow or not, an apostrophe, or U+2212.
+/// Returns whether a symbol is the minus sign or the separator of a locale.
 #[inline(always)]
-fn is_common(symbol: &str) -> bool
+fn is_of_locale(symbol: &str) -> bool
     ensures { IsTrue result → HasNoNumeral symbol.now }
 {
-    matches!(symbol, "\u{202f}" | "\u{a0}" | "\u{2019}" | "\u{2212}")
+    if is_locale_separator(symbol) {
+        return true;
+    }
+    is_locale_sign(symbol)
+}
+
+/// Returns whether a text is the minus sign of a locale.
+#[inline(always)]
+pub fn is_locale_sign(text: &str) -> bool
+    ensures { IsTrue result → Contains locale_signs text.now }
+{
+    if is_short_sign(text) {
+        return true;
+    }
+    is_marked_sign(text)
+}
+
+/// Returns whether a text is a minus sign, or has U+061C or U+200E before a hyphen.
+#[inline(always)]
+fn is_short_sign(text: &str) -> bool
+    ensures { IsTrue result → Contains short_signs text.now }
+{
+    matches!(
+        *text.as_bytes(),
+        [b'-'] | [0xE2, 0x88, 0x92] | [0xD8, 0x9C, b'-'] | [0xE2, 0x80, 0x8E, b'-']
+    )
+}
+
+/// Returns whether a text is a minus sign with other marks of direction.
+#[inline(always)]
+fn is_marked_sign(text: &str) -> bool
+    ensures { IsTrue result → Contains marked_signs text.now }
+{
+    matches!(
+        *text.as_bytes(),
+        [0xE2, 0x80, 0x8F, b'-']
+            | [0xE2, 0x80, 0x8E, b'-', 0xE2, 0x80, 0x8E]
+            | [0xE2, 0x80, 0x8E, 0xE2, 0x88, 0x92]
+    )
+}
+
+/// Returns whether a text is the separator of a locale, and neither a comma nor a point.
+#[inline(always)]
+pub fn is_locale_separator(text: &str) -> bool
+    ensures { IsTrue result → Contains locale_separators text.now }
+{
+    matches!(
+        *text.as_bytes(),
+        [0xC2, 0xA0] | [0xE2, 0x80, 0xAF] | [0xE2, 0x80, 0x99] | [0xD9, 0xAC]
+    )
 }
 
 /// Returns whether a character of a text is numeric and none of the digits `0` to `9`.

@@ -15,8 +15,8 @@ use Rattle.num_format_decimal.proofs.CauseLemmas.{scaled-judged}
 use Rattle.num_format_typed.specs.Laws.{PrintedAtScaleLaw, PrintedDecimalLaw}
 use Rattle.num_format_typed.specs.Typed.{IsTypable, RescaleResult, TypedDecimalResult, TypedResult, at_any_scale, placed}
 use Rattle.num_format_typed.specs.Typed.{typed_text}
-use Rattle.num_format_typed.specs.declared.typed.TypedError.{TypedError}
-use Rattle.num_format_typed.specs.declared.typed.TypedError.TheVariants.{TooLong, Number}
+use Rattle.num_format_typed.specs.declared.error.TypedError.{TypedError}
+use Rattle.num_format_typed.specs.declared.error.TypedError.TheVariants.{TooLong, Number}
 
 -- no text is accepted and refused, and none is accepted as two
 pub record IsStrict {X E Y : Type 0} (value : X → Y) (parses : List ℕ → Result X E → Type 0) : Type 0 where

@@ -8,7 +8,7 @@ use Rattle.num_format_decimal.specs.FixedPoint.{FixedPoint}
 use Rattle.num_format_decimal.specs.Parsing.{ParsesAtScale, ParsesDecimal}
 use Rattle.num_format_decimal.specs.declared.parsing.ParseAtScaleError.{ParseAtScaleError}
 use Rattle.num_format_typed.specs.Typed.{IsTypable, ParsesTyped, TypedAtScaleResult, TypedDecimalResult}
-use Rattle.num_format_typed.specs.declared.typed.TypedError.{TypedError}
+use Rattle.num_format_typed.specs.declared.error.TypedError.{TypedError}
 
 -- under a format that is typable, a text that strict parsing accepts is typed for the same number
 abbrev pub PrintedLaw : {X : Type 0} → Kind → (X → ℤ) → Type 0

@@ -10,6 +10,7 @@ use Rattle.num_format_text.specs.Format.{FormatData}
 use Rattle.num_format_int.specs.Grouped.{printed_separator}
 use Rattle.num_format_int.specs.Kind.{Kind}
 use Rattle.num_format_parsing.specs.Strict.{IsUnambiguous, ParsesStrictly}
+use Rattle.num_format_parsing.specs.Symbols.{locale_separators, locale_signs}
 use Rattle.num_format_parsing.specs.declared.error.StrictError.{StrictError}
 use Rattle.num_format_parsing.specs.declared.error.StrictError.TheVariants as strict
 use Rattle.num_format_decimal.specs.FixedPoint.{FixedPoint}
@@ -24,8 +25,8 @@ use Rattle.num_format_typed.specs.Classes.{class_of, is_of}
 use Rattle.num_format_typed.specs.Rewriting.{bytes_within, images, without_ends, without_front}
 use Rattle.num_format_typed.specs.declared.classes.Class.{Class}
 use Rattle.num_format_typed.specs.declared.classes.Class.TheVariants.{Minus, Plus, Direction, End}
-use Rattle.num_format_typed.specs.declared.typed.TypedError.{TypedError}
-use Rattle.num_format_typed.specs.declared.typed.TypedError.TheVariants.{TooLong, Number}
+use Rattle.num_format_typed.specs.declared.error.TypedError.{TypedError}
+use Rattle.num_format_typed.specs.declared.error.TypedError.TheVariants.{TooLong, Number}
 
 -- the characters of a printed separator and a mark that stand for a class: the first one of the class
 abbrev pub own_char : (separator mark : List ℕ) → Class → Option ℕ
@@ -83,24 +84,18 @@ pub record IsTypable (f : FormatData) : Type 0 where
   pub no_plus : begins_with Plus (core_of f) ≡ false
   pub apart : has_shared (separator_of f) f.decimal (core_of f) ≡ false
 
--- minus signs, decimal marks and separators that most formats have
-abbrev pub usual_signs : List (List ℕ)
-usual_signs = codes "-" ∷ (0xE2 ∷ 0x88 ∷ 0x92 ∷ []) ∷ (0xD8 ∷ 0x9C ∷ 0x2D ∷ []) ∷ (0xE2 ∷ 0x80 ∷ 0x8E ∷ 0x2D ∷ []) ∷ []
-
+-- the decimal marks of locales, and their separators and those of keyboards
 abbrev pub usual_marks : List (List ℕ)
 usual_marks = codes "." ∷ codes "," ∷ (0xD9 ∷ 0xAB ∷ []) ∷ []
-
-abbrev pub usual_spaces : List (List ℕ)
-usual_spaces = (0xC2 ∷ 0xA0 ∷ []) ∷ (0xE2 ∷ 0x80 ∷ 0xAF ∷ []) ∷ (0xE2 ∷ 0x80 ∷ 0x99 ∷ []) ∷ (0xD9 ∷ 0xAC ∷ []) ∷ []
 
 abbrev pub ascii_separators : List (List ℕ)
 ascii_separators = codes "'" ∷ codes " " ∷ [] ∷ []
 
 abbrev pub usual_separators : List (List ℕ)
-usual_separators = usual_marks ++ (usual_spaces ++ ascii_separators)
+usual_separators = usual_marks ++ (locale_separators ++ ascii_separators)
 
 pub record HasUsualSymbols (f : FormatData) : Type 0 where
-  pub sign : Contains usual_signs f.minus_sign
+  pub sign : Contains locale_signs f.minus_sign
   pub mark : Contains usual_marks f.decimal
   pub separator : Contains usual_separators f.separator
 
@@ -173,13 +168,17 @@ pub data TypedResult {X E : Type 0} (Taken : Type 0) (f : FormatData) (t : List 
       → parses (typed_text f t) strict → result ≡ map_error (place (place_in f t)) strict
       → TypedResult Taken f t ambiguous not_utf8 place parses result
 
+-- what parsing returns of a text by the strict parsing that takes such formats
+abbrev pub TypedBy : {X : Type 0} → (FormatData → Type 0) → (FormatData → List ℕ → Result X StrictError → Type 0) → FormatData → List ℕ
+    → Result X (TypedError StrictError) → Type 0
+TypedBy Taken parses f t = TypedResult (Taken f) f t strict.AmbiguousFormat strict.NotUtf8 placed (parses f)
+
 -- what parsing returns of a text as a whole number of a kind, and as a decimal
 abbrev pub ParsesTyped : {X : Type 0} → Kind → (X → ℤ) → FormatData → List ℕ → Result X (TypedError StrictError) → Type 0
-ParsesTyped k value f t = TypedResult (IsTypable f) f t strict.AmbiguousFormat strict.NotUtf8 placed (ParsesStrictly k value f)
+ParsesTyped k value = TypedBy IsTypable (ParsesStrictly k value)
 
 abbrev pub TypedDecimalResult : FormatData → List ℕ → Result FixedPoint (TypedError StrictError) → Type 0
-TypedDecimalResult f t =
-    TypedResult (IsTypable f × MarksDecimals f) f t strict.AmbiguousFormat strict.NotUtf8 placed (DecimalResult f)
+TypedDecimalResult = TypedBy (λ f. IsTypable f × MarksDecimals f) DecimalResult
 
 -- why a decimal has no such scale
 abbrev pub IsScaleCause : FixedPoint → (scale : ℕ) → TypedError ParseAtScaleError → Type 0

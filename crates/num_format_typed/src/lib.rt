@@ -15,12 +15,16 @@
 #![tactic(auto)]
 
 mod classes;
+pub mod error;
 pub mod laws;
+mod rewriter;
 pub mod rewriting;
+mod symbols;
 pub mod typed;
 mod utf8;
 
+pub use error::TypedError;
 pub use typed::{
-    TypedError, TypedParser, parse_typed, parse_typed_at_scale, parse_typed_bytes,
-    parse_typed_decimal, parse_typed_decimal_bytes,
+    TypedParser, parse_typed, parse_typed_at_scale, parse_typed_bytes, parse_typed_decimal,
+    parse_typed_decimal_bytes,
 };

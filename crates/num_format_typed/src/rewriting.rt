@@ -6,7 +6,7 @@ ghost use Rattle.std.specs.Str.{chars, encode_utf8_all};
 ghost use Rattle.num_format_decimal.specs.declared.buffer.TheConstants.{MAX_DECIMAL_LEN};
 ghost use Rattle.num_format_typed.specs.Classes.{is_of};
 ghost use Rattle.num_format_typed.specs.Rewriting.{EndsInDigit, KeepsDigits, bytes_within, images};
-ghost use Rattle.num_format_typed.specs.Rewriting.{without_end, without_front};
+ghost use Rattle.num_format_typed.specs.Rewriting.{without_end, without_ends, without_front};
 
 use crate::classes::Class;
 use num_format_decimal::MAX_DECIMAL_LEN;
@@ -220,6 +220,14 @@ pub fn without_end(text: &str, class: Class) -> &str
         return text;
     }
     trimmed_end(text, class)
+}
+
+/// Returns a text without the characters of a class at both ends.
+pub fn without_ends(text: &str, class: Class) -> &str
+    ensures value { result.now ≡ without_ends (is_of class) text.now }
+    ensures bound { length result.now ≤ length text.now }
+{
+    without_end(without_front(text, class), class)
 }
 
 /// Returns whether a text ends in a digit.

@@ -14,8 +14,8 @@ use Rattle.num_format_parsing.specs.declared.error.StrictError.{StrictError}
 use Rattle.num_format_parsing.specs.declared.error.StrictError.TheVariants as strict
 use Rattle.num_format_typed.specs.Typed.{IsTypable, TypedDecimalResult, TypedResult, core_of, map_error, place_in, placed}
 use Rattle.num_format_typed.specs.Typed.{typed_text}
-use Rattle.num_format_typed.specs.declared.typed.TypedError.{TypedError}
-use Rattle.num_format_typed.specs.declared.typed.TypedError.TheVariants.{Number, TooLong}
+use Rattle.num_format_typed.specs.declared.error.TypedError.{TypedError}
+use Rattle.num_format_typed.specs.declared.error.TypedError.TheVariants.{Number, TooLong}
 use Rattle.regroup_faults.proofs.DecimalLemmas.{decimal_read-none, decimal_read-parsed, marks-Decides, parsed-utf8, plain-marks, why-is}
 use Rattle.regroup_faults.proofs.DecimalLemmas.{why-parsed}
 use Rattle.regroup_faults.specs.Decimals.{decimal_read, typed_read, types_decimals}

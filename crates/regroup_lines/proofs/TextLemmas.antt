@@ -10,7 +10,7 @@ use Rattle.num_format.specs.ParseBytesError.{ParseBytesError}
 use Rattle.num_format.specs.ParseBytesError.TheVariants.{NotANumber, NotUtf8}
 use Rattle.num_format.proofs.ReadableLemmas.{readable-from_accepted, unreadable-from_refused}
 use Rattle.num_format_typed.specs.Typed.{TypedDecimalResult}
-use Rattle.num_format_typed.specs.declared.typed.TypedError.{TypedError}
+use Rattle.num_format_typed.specs.declared.error.TypedError.{TypedError}
 use Rattle.regroup_faults.proofs.DecimalLemmas.{decimal_read-none, decimal_read-parsed, parsed-utf8}
 use Rattle.regroup_faults.proofs.TypedLemmas.{typed-utf8, typed_read-is}
 use Rattle.std.specs.Result.{result_ok}

@@ -4,5 +4,5 @@ use Rattle.num_format_typed.specs.Typed.{TypedDecimalResult}
 use Rattle.num_format_typed.proofs.typed.parse_typed_decimal_bytes.Goals as goal
 
 pub returns : goal.returns
-returns g c = subst (λ (f : FormatData). TypedDecimalResult f c.args.bytes.now c.parse_decimal.result) c.in-Ok.ensures.0
-    c.parse_decimal.ensures
+returns g c = subst (λ (f : FormatData). TypedDecimalResult f c.args.bytes.now c.parse.result) c.in-Ok.ensures.0
+    c.parse.ensures

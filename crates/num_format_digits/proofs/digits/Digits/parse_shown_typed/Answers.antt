@@ -1,7 +1,7 @@
 use Rattle.std.proofs.Common.{◌≡◌, ◌∙◌, inr, ℕ, List, Result, Ok, refl, subst, sym}
 use Rattle.num_format_text.specs.Format.{FormatData}
 use Rattle.num_format_typed.specs.Typed.{ParsesTyped, TypedResult}
-use Rattle.num_format_typed.specs.declared.typed.TypedError.{TypedError}
+use Rattle.num_format_typed.specs.declared.error.TypedError.{TypedError}
 use Rattle.num_format_digits.proofs.digits.Digits.parse_shown_typed.Goals as goal
 
 -- a format under which a number is parsed is taken

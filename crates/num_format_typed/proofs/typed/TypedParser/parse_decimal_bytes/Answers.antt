@@ -4,5 +4,5 @@ use Rattle.num_format_typed.specs.Typed.{TypedDecimalResult}
 use Rattle.num_format_typed.proofs.typed.TypedParser.parse_decimal_bytes.Goals as goal
 
 pub returns-in-Some : goal.returns-in-Some
-returns-in-Some g c = subst (λ (f : FormatData). TypedDecimalResult f c.args.bytes.now c.parse_decimal.result) c.self.view_is
-    c.parse_decimal.ensures
+returns-in-Some g c = subst (λ (f : FormatData). TypedDecimalResult f c.args.bytes.now c.parse.result) c.self.view_is
+    c.parse.ensures

@@ -2,7 +2,7 @@ use Rattle.std.proofs.Common.{◌≡◌, ◌∙◌, ap, sym, true}
 use Rattle.std.specs.Prelude.{nat_eq}
 use Rattle.std.specs.List.{starts_with}
 use Rattle.num_format_typed.proofs.SignLemmas.{boundary-past}
-use Rattle.num_format_typed.proofs.typed.strip.Goals as goal
+use Rattle.num_format_typed.proofs.rewriter.strip.Goals as goal
 
 pub range_from-requires : goal.range_from-requires
 range_from-requires c = λ some.

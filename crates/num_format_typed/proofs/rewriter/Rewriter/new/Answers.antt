@@ -1,5 +1,5 @@
 use Rattle.num_format_typed.proofs.TypableLemmas.{usual-typable}
-use Rattle.num_format_typed.proofs.typed.Rewriter.new.Goals as goal
+use Rattle.num_format_typed.proofs.rewriter.Rewriter.new.Goals as goal
 
 pub typable-requires : goal.typable-requires
 typable-requires g c =

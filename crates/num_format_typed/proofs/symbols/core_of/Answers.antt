@@ -3,7 +3,7 @@ use Rattle.num_format_typed.specs.Classes.{is_of}
 use Rattle.num_format_typed.specs.Rewriting.{without_ends}
 use Rattle.num_format_typed.specs.declared.classes.Class.TheVariants.{Direction}
 use Rattle.num_format_typed.proofs.TypableLemmas.{core-hyphen}
-use Rattle.num_format_typed.proofs.typed.core_of.Goals as goal
+use Rattle.num_format_typed.proofs.symbols.core_of.Goals as goal
 
 pub returns-then-is_hyphen-clause-value : goal.returns-then-is_hyphen-clause-value
 returns-then-is_hyphen-clause-value c =

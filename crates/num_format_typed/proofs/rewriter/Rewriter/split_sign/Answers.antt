@@ -5,7 +5,7 @@ use Rattle.num_format_typed.specs.Classes.{is_of}
 use Rattle.num_format_typed.specs.Typed.{core_of}
 use Rattle.num_format_typed.specs.declared.classes.Class.TheVariants.{Plus}
 use Rattle.num_format_typed.proofs.SignLemmas.{unsigned-first}
-use Rattle.num_format_typed.proofs.typed.Rewriter.split_sign.Goals as goal
+use Rattle.num_format_typed.proofs.rewriter.Rewriter.split_sign.Goals as goal
 
 pub returns-then-has-clause-rest : goal.returns-then-has-clause-rest
 returns-then-has-clause-rest g c =

@@ -2,7 +2,7 @@ use Rattle.std.proofs.Common.{◌≡◌, length}
 use denote.Shadow.{shadow}
 use denote.Text.{Utf8}
 use Rattle.num_format_typed.specs.Typed.{is_own}
-use Rattle.num_format_typed.proofs.typed.Symbols.are_own.Given as goal
+use Rattle.num_format_typed.proofs.symbols.Symbols.are_own.Given as goal
 
 -- the text is put for itself where what is left of it is
 abbrev pub invariant-loop-c : goal.invariant-loop-c
