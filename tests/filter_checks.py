@@ -176,9 +176,8 @@ def check_sum(tally, program):
     recipe = RECIPE.search(page)[1].replace("\\e", "\\")
     randomly = random.Random(56)
     rows = [row_of(randomly) for _ in range(RECORDS)]
-    on_lines = [[first.replace("\n", " "), third.replace("\n", " "), second] for first, second, third, _ in rows]
-    table = [["name", "note", "amount"], *on_lines]
-    total = sum(Decimal(amount.replace(",", "")) for _, _, amount in on_lines)
+    table = [["name", "note", "amount"], *([first, third, second] for first, second, third, _ in rows)]
+    total = sum(Decimal(second.replace(",", "")) for _, second, _, _ in rows)
     with tempfile.TemporaryDirectory() as folder:
         (Path(folder) / "regroup-lines").symlink_to(program)
         for quoting in [csv.QUOTE_MINIMAL, csv.QUOTE_ALL]:

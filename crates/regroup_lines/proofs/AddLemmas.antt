@@ -6,7 +6,6 @@ use Rattle.regroup_lines.proofs.Common.{take-append-drop, take_rest, drop-drop, 
 use Rattle.regroup_lines.proofs.Common.{number_written, place_written, ◌==◌, ◌-◌, ◌&&◌, ◌+◌, true}
 use Rattle.regroup_lines.specs.Adding.{Adds, AddsIf, SendsAdded}
 use Rattle.regroup_lines.specs.Lines.{mark_len}
-use Rattle.regroup_lines.specs.declared.line_fault.LineFault.TheVariants as fault
 use Rattle.regroup_lines.specs.declared.rules.Span.TheVariants as span
 use Rattle.std.proofs.lemmas.Bool.Decides.{Decides-eqb}
 use Rattle.std.proofs.lemmas.Slice.Eq.{starts_is}

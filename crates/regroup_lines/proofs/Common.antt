@@ -49,6 +49,8 @@ pub use Rattle.regroup_lines.specs.Lines.{
   between,
   body_sent,
   body_written,
+  chosen_of,
+  chosen_replaced,
   decimal_written,
   fault_named,
   fault_sent,

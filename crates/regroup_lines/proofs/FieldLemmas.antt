@@ -125,7 +125,7 @@ pub none_between : (text : List ℕ) (n : ℕ) → slice_range text n n ≡ []
 none_between text n = let none : n - n ≡ 0 = omega arith in ap (λ k. take k (drop n text)) none
 
 -- a text and what is after it, or the first fault
-abbrev followed : Result (List ℕ) Fault → Result (List ℕ) Fault → Result (List ℕ) Fault
+abbrev pub followed : Result (List ℕ) Fault → Result (List ℕ) Fault → Result (List ℕ) Fault
 followed (Ok text) rest = after text rest
 followed (Err fault) rest = Err fault
 

@@ -1,6 +1,7 @@
 -- The proofs of this crate.
 mod AddLemmas
 mod ChoiceLemmas
+mod ChosenLemmas
 mod Common
 pub mod CsvLemmas
 mod Examples

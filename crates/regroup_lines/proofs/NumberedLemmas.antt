@@ -1,7 +1,7 @@
 -- What is written in place of a line depends on the line's number in the fault alone.
 use Rattle.regroup_lines.proofs.Common.{failed_writer, Bool, Err, Fault, FewFields, Field, FieldNotText, Fields, FixedPoint, NotationData}
 use Rattle.regroup_lines.proofs.Common.{Line, List, MARK, None, NotText, Ok, Option, ParseNumber, Reading, Refusal, Result, Rules}
-use Rattle.regroup_lines.proofs.Common.{Some, Span, TooMany, [], after, ap, are_enough, between, body_written, cases_Bool}
+use Rattle.regroup_lines.proofs.Common.{Some, Span, TooMany, [], after, ap, are_enough, between, body_written, cases_Bool, chosen_of}
 use Rattle.regroup_lines.proofs.Common.{cut_text, inl, inr, decimal_written, drop, false}
 use Rattle.regroup_lines.proofs.Common.{field_count, field_read, field_with, field_written, fields_of, fields_written, if◌then◌else◌}
 use Rattle.regroup_lines.proofs.Common.{header_written, in_field, is_barred, is_chosen, is_utf8, join_with_byte, length, list_any, nat_le}
@@ -104,14 +104,21 @@ module _ (rules : Rules) (from to : NotationData) (n m : ℕ) where
       ∙ ap (with_first (numbered n (field_written rules fields from to m (before + 1) chosen text))) (all_fields fields (before + 1) texts)
       ∙ first n (field_written rules fields from to m (before + 1) chosen text) (fields_written rules fields from to m (before + 1) texts)
 
+  of_fields : (fields : Fields) (f : List (List ℕ) → List ℕ) (text : List ℕ) →
+      result_map_both f (λ fault. fault) (fields_written rules fields from to n 0 (fields_of fields text))
+      ≡ numbered n (result_map_both f (λ fault. fault) (fields_written rules fields from to m 0 (fields_of fields text)))
+  of_fields fields f text =
+      ap (result_map_both f (λ fault. fault)) (all_fields fields 0 (fields_of fields text))
+      ∙ mapped n f (λ fault. fault) (λ fault. refl) (fields_written rules fields from to m 0 (fields_of fields text))
+
   numbers : (where_is : Span) (text : List ℕ) → numbers_replaced where_is rules from to n text
       ≡ numbered n (numbers_replaced where_is rules from to m text)
   numbers span.Line text = place text (0, length text)
   numbers span.Trimmed text = place text (trimmed text (0, length text))
   numbers (span.Fields fields) text =
-      ap (result_map_both (join_with_byte (output_delimiter fields)) (λ fault. fault)) (all_fields fields 0 (fields_of fields text))
-      ∙ mapped n (join_with_byte (output_delimiter fields)) (λ fault. fault) (λ fault. refl)
-      (fields_written rules fields from to m 0 (fields_of fields text))
+      let joined = join_with_byte (output_delimiter fields) in
+      either n fields.only _ _ _ _ (of_fields fields (λ texts. joined (chosen_of fields.list.now 0 texts)) text)
+      (of_fields fields joined text)
 
   -- but a byte order mark
   pub body-numbered : (text : List ℕ) → nat_le n rules.header_lines ≡ nat_le m rules.header_lines

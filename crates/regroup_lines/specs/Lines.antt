@@ -20,6 +20,7 @@ use Rattle.regroup_lines.specs.LineFaults.{text_fault}
 use Rattle.regroup_lines.specs.Places.{are_enough, field_count, is_chosen, trimmed}
 use Rattle.regroup_lines.specs.Records.{is_open, is_quote, line_reached, next_line, record_start, split_at}
 use Rattle.regroup_lines.specs.declared.records.Within.TheVariants.{Start}
+use Rattle.regroup_lines.specs.declared.rules.FieldRange.{FieldRange}
 use Rattle.regroup_lines.specs.declared.rules.Fields.{Fields}
 use Rattle.regroup_lines.specs.declared.rules.Invalid.{Invalid}
 use Rattle.regroup_lines.specs.declared.rules.Invalid.TheVariants.{Abort, Fail, Warn, Ignore}
@@ -147,6 +148,18 @@ fields_replaced fields rules from to number text =
     result_map_both (join_with_byte (output_delimiter fields)) (λ fault. fault)
     (fields_written rules fields from to number 0 (fields_of fields text))
 
+-- those of fields that are chosen, where so many others are before these
+abbrev pub chosen_of : List FieldRange → (before : ℕ) → List (List ℕ) → List (List ℕ)
+chosen_of list before [] = []
+chosen_of list before (text ∷ texts) =
+    if is_chosen list (before + 1) then text ∷ chosen_of list (before + 1) texts else chosen_of list (before + 1) texts
+
+-- the chosen fields alone of a line, with the number in each replaced
+abbrev pub chosen_replaced : Fields → List FieldRange → Rules → NotationData → NotationData → ℕ → List ℕ → Result (List ℕ) Fault
+chosen_replaced fields list rules from to number text =
+    result_map_both (λ texts. join_with_byte (output_delimiter fields) (chosen_of list 0 texts)) (λ fault. fault)
+    (fields_written rules fields from to number 0 (fields_of fields text))
+
 -- a text after these bytes
 abbrev pub after : List ℕ → Result (List ℕ) Fault → Result (List ℕ) Fault
 after bytes written = result_map_both (λ text. bytes ++ text) (λ fault. fault) written
@@ -160,7 +173,9 @@ line_ended fields number count rest = if are_enough fields.list.now count then O
 abbrev pub numbers_replaced : Span → Rules → NotationData → NotationData → ℕ → List ℕ → Result (List ℕ) Fault
 numbers_replaced span.Line rules from to number text = place_written rules from to number text (0, length text)
 numbers_replaced span.Trimmed rules from to number text = place_written rules from to number text (trimmed text (0, length text))
-numbers_replaced (span.Fields fields) rules from to number text = fields_replaced fields rules from to number text
+numbers_replaced (span.Fields fields) rules from to number text =
+    if fields.only then chosen_replaced fields fields.list.now rules from to number text else
+    fields_replaced fields rules from to number text
 
 -- the delimiter of the fields that may be in quotes, if there are such
 abbrev pub quotes_in : Span → Option ℕ
@@ -186,12 +201,13 @@ passes_mark (span.Fields fields) number text = (number == 1) && begins_with_mark
 abbrev pub mark_len : Span → ℕ → List ℕ → ℕ
 mark_len span number text = if passes_mark span number text then length MARK else 0
 
--- a header: each of its fields is one that is not chosen
+-- a header: each of its fields is written as one that is not chosen
 abbrev pub header_written : Span → (line_end : ℕ) → List ℕ → List ℕ
 header_written span.Line line_end text = text
 header_written span.Trimmed line_end text = text
 header_written (span.Fields fields) line_end text =
-    join_with_byte (output_delimiter fields) (map (λ field. field_with fields line_end field None) (fields_of fields text))
+    let all = map (λ field. field_with fields line_end field None) (fields_of fields text) in
+    join_with_byte (output_delimiter fields) (if fields.only then chosen_of fields.list.now 0 all else all)
 
 -- what is written in place of a line without a byte order mark
 abbrev pub unmarked_written : Rules → NotationData → NotationData → ℕ → List ℕ → Result (List ℕ) Fault

@@ -1,13 +1,14 @@
 //! The fields of a line, or of a record of RFC 4180: those that are chosen have a number each, which may be in quotes.
-ghost use Rattle.std.specs.Prelude.{◌≡◌, ◌≤◌, ◌+◌, ◌-◌, ◌&&◌, IfOk, IfSome, Some, drop, length, take, true};
+ghost use Rattle.std.specs.Prelude.{◌≡◌, ◌≤◌, ◌+◌, ◌-◌, ◌&&◌, ◌∷◌, [], ℕ, IfOk, IfSome, Ok, Some, drop, length, take};
+ghost use Rattle.std.specs.Prelude.{if◌then◌else◌, true};
 ghost use Rattle.std.specs.List.{list_any};
 ghost use Rattle.std.specs.Result.{result_map_both};
 ghost use Rattle.regroup_faults.specs.Notation.{NotationData};
 ghost use Rattle.regroup_lines.specs.Adding.{Adds, AddsIf, Separates};
 ghost use Rattle.regroup_lines.specs.Csv.{is_barred, is_opened, is_quoted, needs_quotes, number_place, output_as};
-ghost use Rattle.regroup_lines.specs.Csv.{output_of, passed_as, placed, quoted_len};
+ghost use Rattle.regroup_lines.specs.Csv.{output_delimiter, output_of, passed_as, placed, quoted_len};
 ghost use Rattle.regroup_lines.specs.LineFaults.{line_fault_of};
-ghost use Rattle.regroup_lines.specs.Lines.{field_written, fields_replaced, line_ended};
+ghost use Rattle.regroup_lines.specs.Lines.{after, chosen_replaced, field_written, fields_replaced, line_ended};
 ghost use Rattle.regroup_lines.specs.Places.{is_chosen, place_of, trimmed};
 
 use crate::job::Job;
@@ -15,7 +16,7 @@ use crate::line_fault::LineFault;
 use crate::line_text::LineText;
 use crate::line_text::Part::{Doubled, Plain};
 use crate::records::{Within, find_end, len_without};
-use crate::rules::{Fields, Output, QUOTE, Quoting, trim};
+use crate::rules::{FieldRange, Fields, Output, QUOTE, Quoting, trim};
 use num_format::Format;
 use num_format_decimal::{Decimal, DecimalBuffer};
 use num_format_digits::DigitText;
@@ -72,6 +73,42 @@ pub(crate) fn append_fields<'t, F: Format, G: Format>(
         number,
     };
     walk.append(line, text)
+}
+
+/// Appends the fields of a line in these ranges alone, with the number in each chosen field regrouped.
+#[inline(never)]
+pub(crate) fn append_chosen<'t, F: Format, G: Format>(
+    job: &Job<F, G>,
+    fields: &Fields,
+    list: &[FieldRange],
+    number: u64,
+    line: &'t [u8],
+    text: &mut LineText,
+) -> Result<(), LineFault<'t>>
+    requires { (n : ℕ) → is_chosen fields.now.list.now n ≡ true → is_chosen list.now n ≡ true }
+    ensures { AddsIf (chosen_replaced fields.now list.now job.now.rules.now job.now.parser job.now.to.now number
+        line.now)
+        text.old text.new (result_map_both (λ added. added) line_fault_of result) }
+{
+    let walk = Line {
+        job,
+        fields,
+        number,
+    };
+    let asked = Fields { list, ..*fields };
+    let (quotes, delimiter) = (fields.quotes(), fields.delimiter);
+    let (mut is_begun, mut count, mut rest) = (false, 0, line);
+    'fields: loop {
+        let (len, _) = find_end(quotes, delimiter, Within::Start, rest);
+        count += 1;
+        let is_asked = asked.contain(count);
+        walk.append_if(is_asked, is_begun, count, &rest[..len], text)?;
+        is_begun |= is_asked;
+        if len == rest.len() {
+            return walk.end(count, &[], text);
+        }
+        rest = &rest[len + 1..];
+    }
 }
 
 impl<F: Format, G: Format> Line<'_, F, G> {
@@ -138,6 +175,39 @@ impl<F: Format, G: Format> Line<'_, F, G> {
         }
         text.append(rest);
         Ok(())
+    }
+
+    /// Appends the field of this number if that is asked for, after a delimiter if there are fields before it.
+    fn append_if<'t>(
+        &self,
+        is_asked: bool,
+        is_begun: bool,
+        count: u64,
+        field: &'t [u8],
+        text: &mut LineText,
+    ) -> Result<(), LineFault<'t>>
+        ensures { AddsIf (if is_asked then after (if is_begun then output_delimiter self.now.fields.now ∷ [] else [])
+            (field_written self.now.job.now.rules.now self.now.fields.now self.now.job.now.parser
+            self.now.job.now.to.now self.now.number count (is_chosen self.now.fields.now.list.now count) field.now)
+            else Ok [])
+            text.old text.new (result_map_both (λ added. added) line_fault_of result) }
+    {
+        if !is_asked {
+            return Ok(());
+        }
+        self.append_delimiter(is_begun, text);
+        self.append_field(count, field, text)
+    }
+
+    /// Appends a delimiter if that is asked for.
+    fn append_delimiter(&self, is_asked: bool, text: &mut LineText)
+        ensures { Adds text.old text.new (if is_asked then output_delimiter self.now.fields.now ∷ [] else []) }
+    {
+        if is_asked {
+            text.push(self.fields.output_delimiter());
+        } else {
+            text.append(&[]);
+        }
     }
 
     /// Appends the field of this number, with the number in it regrouped if it is chosen.

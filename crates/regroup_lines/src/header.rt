@@ -92,8 +92,8 @@ fn unmarked(text: &[u8]) -> &[u8]
 /// where it is in quotes, without these.
 ///
 /// ```rust
-/// let (list, delimiter, quotes, output) = ([].as_slice(), b',', true, None);
-/// let fields = Fields { list, delimiter, quotes, output };
+/// let (list, delimiter, quotes, output, only) = ([].as_slice(), b',', true, None, false);
+/// let fields = Fields { list, delimiter, quotes, output, only };
 /// field_named(&fields, b"id,\"net \"\"EUR\"\"\"", "net \"EUR\"")    // Ok(2)
 /// field_named(&fields, b"id,net,net", "net")                         // Err(Doubled("net"))
 /// ```

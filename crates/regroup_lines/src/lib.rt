@@ -45,7 +45,7 @@ ghost use Rattle.regroup_lines.specs.declared.rules.Span.TheVariants as span;
 ghost use Rattle.regroup_lines.specs.Sending.{Names, PassesLong, Regroups, RegroupsNaming, SendsBytes, SendsEach};
 ghost use Rattle.regroup_lines.specs.Sending.{SendsLine, by_writer};
 
-use crate::fields::append_fields;
+use crate::fields::{append_chosen, append_fields};
 pub use crate::header::{Header, NameFault, field_named, read_header};
 use crate::input::{Input, Piece, Record};
 use crate::job::Job;
@@ -513,7 +513,7 @@ fn regroup_body<'a, W: Write, F: Format, G: Format>(
     regroup_place(job, line, place, w)
 }
 
-/// Appends a line with the number in each chosen field regrouped, or a header.
+/// Appends a line with the number in each chosen field regrouped, or these fields alone, or a header.
 #[inline(always)]
 fn append_body<'a, F: Format, G: Format>(
     job: &Job<F, G>,
@@ -526,10 +526,13 @@ fn append_body<'a, F: Format, G: Format>(
     ensures { AddsIf (unmarked_written job.now.rules.now job.now.parser job.now.to.now number line.now)
         text.old text.new (result_map_both (λ added. added) line_fault_of result) }
 {
-    if number > job.rules.header_lines {
-        return append_fields(job, fields, number, line, text);
+    if number <= job.rules.header_lines {
+        return append_header(job, fields, number, line, text);
     }
-    append_header(job, fields, number, line, text)
+    if fields.only {
+        return append_chosen(job, fields, fields.list, number, line, text);
+    }
+    append_fields(job, fields, number, line, text)
 }
 
 /// Appends a header. It has no number.
@@ -549,6 +552,9 @@ fn append_header<'a, F: Format, G: Format>(
         list: &[],
         ..*fields
     };
+    if fields.only {
+        return append_chosen(job, &none, fields.list, number, line, text);
+    }
     append_fields(job, &none, number, line, text)
 }
 

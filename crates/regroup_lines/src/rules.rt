@@ -1,5 +1,6 @@
 //! How the lines of an input are regrouped, and where the numbers of a line are.
 ghost use Rattle.std.specs.Prelude.{◌≡◌, ◌≤◌, length, true, None, IfSome};
+ghost use Rattle.regroup_lines.specs.Csv.{output_delimiter};
 ghost use Rattle.regroup_lines.specs.Lines.{mark_len, passes, quotes_in, quotes_of};
 ghost use Rattle.regroup_lines.specs.Places.{are_enough, field_count, is_at_most, is_chosen, least_of, next_of};
 ghost use Rattle.regroup_lines.specs.Places.{place_of, trimmed, wanted_of};
@@ -87,6 +88,8 @@ pub struct Fields<'a> {
     pub quotes: bool,
     /// How all fields are written, or `None` if the bytes that are not those of a number are passed on as they are.
     pub output: Option<Output>,
+    /// Whether the fields with a number alone are written, and those of a header.
+    pub only: bool,
 }
 
 /// Where the numbers of a line are. ASCII whitespace around a number, as a carriage return, is not part of it, nor is a
@@ -207,6 +210,16 @@ impl Fields<'_> {
         ensures { result ≡ quotes_of self.now }
     {
         (self.quotes && self.delimiter != QUOTE).then_some(self.delimiter)
+    }
+
+    /// Returns the byte between two fields that are written.
+    pub(crate) fn output_delimiter(&self) -> u8
+        ensures { result ≡ output_delimiter self.now }
+    {
+        match &self.output {
+            Some(output) => output.delimiter,
+            None => self.delimiter,
+        }
     }
 
     /// Returns whether the field of this number has a number.

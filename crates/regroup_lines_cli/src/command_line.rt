@@ -140,7 +140,13 @@ fn with_output_options<'a>(alloc: Global, command: Command<'a>) -> Result<Comman
                 .help(
                     "Which fields are written in quotes: those that were, or those that need them [default: keep]",
                 ),
-        )
+        )?
+        .arg(flag(
+            alloc,
+            "only",
+            "Write the chosen fields alone, in their order in the line",
+        )?
+        .requires_arg("field")?)
 }
 
 /// Returns the command line with its options about lines that are no numbers.

@@ -50,6 +50,8 @@ fn cause_in(alloc: Global, kind: ErrorKind, text: &str) -> Result<String, AllocE
                 "option '--csv' requires '--field'"
             } else if text.contains("--output-delimiter") {
                 "option '--output-delimiter' requires '--field'"
+            } else if text.contains("--only") {
+                "option '--only' requires '--field'"
             } else {
                 "option '--delimiter' requires '--field'"
             };

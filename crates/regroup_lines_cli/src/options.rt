@@ -48,6 +48,7 @@ pub(crate) fn options_of<'a, 'w>(
         csv: matches.get_flag("csv"),
         output_delimiter: matches.get_str("output-delimiter"),
         quoting,
+        only: matches.get_flag("only"),
         reading,
         header_lines,
         passes_empty: matches.get_flag("empty"),

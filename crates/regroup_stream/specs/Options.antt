@@ -77,7 +77,13 @@ span_of options =
     if options.has_names && options.header_lines == 0 then Err NamesWithoutHeader else
     and_then (delimiter_of options.csv options.delimiter) (λ delimiter.
     and_then (output_of options delimiter options.output_delimiter options.quoting) (λ output.
-    Ok (span.Fields (record { list = options.list; delimiter = delimiter; quotes = options.csv; output = output }))))
+    Ok (span.Fields (record {
+      list = options.list;
+      delimiter = delimiter;
+      quotes = options.csv;
+      output = output;
+      only = options.only;
+    }))))
 
 -- the rules, or the first fault: a line has at most 1 MiB
 abbrev pub rules_of : Options → Result Rules OptionFault

@@ -19,6 +19,7 @@ const MAX_LINE_LEN: u32 = 1_048_576;
 ///     csv: false,
 ///     output_delimiter: None,
 ///     quoting: Quoting::Keep,
+///     only: false,
 ///     reading: Reading::Strict,
 ///     header_lines: 0,
 ///     passes_empty: false,
@@ -44,6 +45,8 @@ pub struct Options<'a, 'w> {
     pub output_delimiter: Option<&'w str>,
     /// Which fields are written in quotes.
     pub quoting: Quoting,
+    /// Whether the chosen fields alone are written.
+    pub only: bool,
     /// How the numbers are read.
     pub reading: Reading,
     /// How many lines at the start are passed on.
@@ -113,6 +116,7 @@ impl<'a> Options<'a, '_> {
             delimiter,
             quotes: self.csv,
             output: self.output(delimiter)?,
+            only: self.only,
         }))
     }
 

@@ -271,8 +271,8 @@ pub fn formats_named<'a>(
 ///
 /// ```rust
 /// let list = [FieldRange { first: 2, last: Some(2) }];
-/// let (delimiter, quotes, output) = (b',', false, None);
-/// let span = Span::Fields(Fields { list: &list, delimiter, quotes, output });
+/// let (delimiter, quotes, output, only) = (b',', false, None, false);
+/// let span = Span::Fields(Fields { list: &list, delimiter, quotes, output, only });
 /// let (from, to) = (Source::Word("plain"), Source::Word("de"));
 /// formats_for(alloc, Reading::Strict, &span, from, to).err()    // Some(Ambiguous("de", PrintsDelimiter))
 /// ```

@@ -44,13 +44,19 @@ const SECOND: Fields<'static> = Fields {
     delimiter: b',',
     quotes: true,
     output: None,
+    only: false,
+};
+
+const ONLY: Fields<'static> = Fields {
+    only: true,
+    ..SECOND
 };
 
 /// The rules, lines, what is written of them under `de`, and the writes of output, messages and rejected lines.
 type Kind<'a> = (Rules<'a>, &'a [u8], &'a [u8], [usize; 3]);
 
 #[rattlefmt::skip]
-const KINDS: [Kind<'static>; 18] = [
+const KINDS: [Kind<'static>; 20] = [
     (PLAIN, b"1,000\n-5\n", b"1.000\n-5\n", [2, 0, 0]),
     (PLAIN, b"1,000\n1,000", b"1.000\n1.000\n", [2, 0, 0]),
     // What is before a number, the number, what is after it, and the end.
@@ -65,6 +71,9 @@ const KINDS: [Kind<'static>; 18] = [
     (FIELDS, b"a,\"1,000\",b\n", b"a,\"1.000\",b\n", [1, 0, 0]),
     (FIELDS, b"\"a\nb\",1000\n", b"\"a\nb\",1.000\n", [1, 0, 0]),
     (FIELDS, b"\"a\nb\",x\na\n\"c\n", b"\"a\nb\",x\na\n\"c\n", [3, 0, 0]),
+    // The second field alone.
+    (Rules { span: Span::Fields(ONLY), ..IGNORED }, b"a,\"1,000\",b\n", b"\"1.000\"\n", [1, 0, 0]),
+    (Rules { span: Span::Fields(ONLY), header_lines: 1, ..IGNORED }, b"a,b,c\n\xff,5", b"b\n5\n", [2, 0, 0]),
     // In parts of nine bytes.
     (Rules { max_line_len: 8, ..IGNORED }, b"1234567890123456789012\n7\n", b"1234567890123456789012\n7\n", [4, 0, 0]),
     (Rules { max_line_len: 8, ..WARNED }, b"12345678901234567890", b"12345678901234567890\n", [3, 1, 0]),

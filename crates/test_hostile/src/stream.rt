@@ -369,6 +369,7 @@ fn assert_named(
         delimiter: b',',
         quotes: false,
         output: None,
+        only: false,
     });
     let rules = Rules {
         span,

@@ -1,4 +1,4 @@
-use Rattle.regroup_lines.proofs.Common.{drop, length, ℕ, ◌+◌, ◌-◌, ◌≡◌, ◌≤◌}
+use Rattle.regroup_lines.proofs.Common.{drop, length, ◌+◌, ◌-◌, ◌≡◌, ◌≤◌}
 use Rattle.regroup_lines.proofs.FieldLemmas.{Begun, IsNext}
 use Rattle.regroup_lines.proofs.fields.Line.append.Given as goal
 
