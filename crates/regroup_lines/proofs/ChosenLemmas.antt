@@ -80,7 +80,8 @@ module _ (rules : Rules) (cs : Fields) (list : List FieldRange) (from to : Notat
         left-other false count field fields is ∙ sym (after-nil (left false (count + 1) fields))
 
     module _ (line : List ℕ) (old : Option (List ℕ)) where
-      module _ (begun : Bool) (count : ℕ) (fields : List (List ℕ)) (now : Option (List ℕ)) (so_far : Begun line old begun count fields now) where
+      module _ (begun : Bool) (count : ℕ) (fields : List (List ℕ)) (now : Option (List ℕ))
+          (so_far : Begun line old begun count fields now) where
         module _ (field : List ℕ) (rest : List (List ℕ)) (split : fields ≡ field ∷ rest) (asked : Bool)
             (is : is_chosen list (count + 1) ≡ asked) (new : Option (List ℕ)) where
           here : (first : Result (List ℕ) Fault) → Next asked begun count field ≡ first →
@@ -90,7 +91,8 @@ module _ (rules : Rules) (cs : Fields) (list : List FieldRange) (from to : Notat
               ∙ ap (λ x. after so_far.0 (followed x (left (begun || asked) (count + 1) rest))) same
 
           -- the next field is written, or at fault
-          pub begun-more : AddsIf {T = Unit {0}} (Next asked begun count field) now new (Ok tt) → Begun line old (begun || asked) (count + 1) rest new
+          pub begun-more : AddsIf {T = Unit {0}} (Next asked begun count field) now new (Ok tt)
+              → Begun line old (begun || asked) (count + 1) rest new
           begun-more = by (Next asked begun count field) refl
             where
               by : (first : Result (List ℕ) Fault) → Next asked begun count field ≡ first → AddsIf {T = Unit {0}} first now new (Ok tt)

@@ -50,7 +50,8 @@ fields-preserved g c =
     let size : length (slice_range rest (len + 1) (length rest)) ≡ length rest - (len + 1) = ap length is ∙ length-drop (len + 1) rest in (
       omega (arith, size, more, c.fields.invariant.0),
       subst (λ l. Begun job.rules.now cs list job.parser job.to.now c.args.number c.args.line.now c.args.text.now
-          (c.fields.is_begun || c.contain-is_asked.result) (c.fields.count + 1) l c.append_if.new.text) (after.3 more ∙ ap (fields_of cs) (sym is))
+          (c.fields.is_begun || c.contain-is_asked.result) (c.fields.count + 1) l c.append_if.new.text)
+          (after.3 more ∙ ap (fields_of cs) (sym is))
           (begun-more job.rules.now cs list job.parser job.to.now c.args.number c.requires c.args.line.now c.args.text.now
           c.fields.is_begun c.fields.count (fields_of cs rest) c.fields.text c.fields.invariant.1 _ after.0 after.1 _
           (sym c.contain-is_asked.ensures) _ c.in_ok-append_if.ensures),
