@@ -172,6 +172,8 @@ def check_random_fields(tally, program):
 def check_sum(tally, program):
     """The recipe of the man page sums what Python sums of a table that Python's `csv` wrote."""
     heading("the sum of the man page")
+    if tally.lacks("bc", "the sum of the man page"):
+        return
     page = (ROOT / "man" / "regroup-lines.1").read_text(encoding="utf-8")
     recipe = RECIPE.search(page)[1].replace("\\e", "\\")
     randomly = random.Random(56)
