@@ -91,21 +91,24 @@ module _ {A X E : Type 0} (value : A → X) where
     pub row_mapped : (status : E → Status) (place : E → ℕ → ℕ) (out : X → ℤ) (s : NumFormat) (t : List ℕ) (old new result : ℤ)
         → Row (crossing of_values moved status place) (λ x. out (value x)) s t old new result
         → Row (crossing of_images moved status place) out s t old new result
-    row_mapped status place out s t old new result (at, c) = (at, record {
-      bad_format = c.bad_format;
-      parsed = λ given either. (let q = c.parsed given either in (
-        mapped value q.0,
-        up (format_of s) t q.0 q.1,
-        stores_mapped value status out old new result q.0 q.2,
-        q.3 ∙ place_mapped value place q.0 0,
-      ));
-      in_digits = λ given other utf8. (let q = c.in_digits given other utf8 in (
-        mapped value q.0,
-        digits_mapped (format_of s) (digits_of s) t q.0 q.1,
-        stores_mapped value (digits_status_of status) out old new result q.0 q.2,
-        q.3 ∙ place_mapped value (digits_place_of place) q.0 0,
-      ));
-    })
+    row_mapped status place out s t old new result (at, c) = (
+      at,
+      record {
+        bad_format = c.bad_format;
+        parsed = λ given either. (let q = c.parsed given either in (
+          mapped value q.0,
+          up (format_of s) t q.0 q.1,
+          stores_mapped value status out old new result q.0 q.2,
+          q.3 ∙ place_mapped value place q.0 0,
+        ));
+        in_digits = λ given other utf8. (let q = c.in_digits given other utf8 in (
+          mapped value q.0,
+          digits_mapped (format_of s) (digits_of s) t q.0 q.1,
+          stores_mapped value (digits_status_of status) out old new result q.0 q.2,
+          q.3 ∙ place_mapped value (digits_place_of place) q.0 0,
+        ));
+      },
+    )
 
 -- a result as it is
 mapped_same : {X E : Type 0} (q : Result X E) → mapped (λ x. x) q ≡ q
