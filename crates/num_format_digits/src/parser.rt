@@ -88,6 +88,7 @@ impl<'a, N: FromFormattedStr, F: Format> TextParser<N> for StrictParser<'a, F> {
 
     ghost way = { λ _. numbers N.kind N.value };
 
+    #[inline(always)]
     fn parse_text(&self, ascii: &[u8]) -> Result<N, StrictError> {
         self.parse_bytes(ascii)
     }
@@ -100,6 +101,7 @@ impl<'a, N: FromFormattedStr, F: Format> TextParser<N> for TypedParser<'a, F> {
 
     ghost way = { λ _. typed_numbers N.kind N.value };
 
+    #[inline(always)]
     fn parse_text(&self, ascii: &[u8]) -> Result<N, TypedError<StrictError>> {
         self.parse_bytes(ascii)
     }
@@ -112,6 +114,7 @@ impl<'a, F: Format> TextParser<Decimal> for DecimalParser<'a, F> {
 
     ghost way = { λ _. decimals };
 
+    #[inline(always)]
     fn parse_text(&self, ascii: &[u8]) -> Result<Decimal, StrictError> {
         self.parse_bytes(ascii)
     }
@@ -128,6 +131,7 @@ impl<'a, F: Format> TextParser<Decimal> for Decimals<TypedParser<'a, F>> {
 
     ghost way = { λ _. typed_decimals };
 
+    #[inline(always)]
     fn parse_text(&self, ascii: &[u8]) -> Result<Decimal, TypedError<StrictError>> {
         self.0.parse_decimal_bytes(ascii)
     }
@@ -147,6 +151,7 @@ impl<'a, F: Format> TextParser<Decimal> for AtScale<DecimalParser<'a, F>> {
 
     ghost way = { λ p. at_scale p.scale };
 
+    #[inline(always)]
     fn parse_text(&self, ascii: &[u8]) -> Result<Decimal, ParseAtScaleError> {
         self.parser.parse_bytes_at_scale(ascii, self.scale)
     }
@@ -159,6 +164,7 @@ impl<'a, F: Format> TextParser<Decimal> for AtScale<TypedParser<'a, F>> {
 
     ghost way = { λ p. typed_at_scale p.scale };
 
+    #[inline(always)]
     fn parse_text(&self, ascii: &[u8]) -> Result<Decimal, TypedError<ParseAtScaleError>> {
         self.parser.parse_bytes_at_scale(ascii, self.scale)
     }
