@@ -85,7 +85,8 @@ impl Digits {
         format: &F,
     ) -> Option<N>
         ensures { IfSome result (λ n. IsUtf8 text.now
-            × InDigits (typed_numbers N.kind N.value) (placed_typed placed) (F.answers format.now) self text.now (Ok n)) }
+            × InDigits (typed_numbers N.kind N.value) (placed_typed placed)
+            (F.answers format.now) self text.now (Ok n)) }
     {
         let mut array = [0; MAX_DECIMAL_LEN];
         let len = self.take_plain(text, &mut array)?;
@@ -228,8 +229,8 @@ impl Digits {
         }
     }
 
-    /// Does the same for bytes, or returns `None` where only [`parse_by`](Digits::parse_by) can tell, as for a text that
-    /// is refused, or one with other symbols than those of locales.
+    /// Does the same for bytes, or returns `None` where only [`parse_by`](Digits::parse_by) can tell, as for a text
+    /// that is refused, or one with other symbols than those of locales.
     #[inline(never)]
     pub fn parse_shown_by<T, P: TextParser<T>>(self, text: &[u8], parser: &P) -> Option<T>
         ensures { IfSome result (λ x. IsUtf8 text.now

@@ -18,7 +18,8 @@ returns g c =
     record {
       bad_format = λ none. absurd (none given.0);
       ambiguous = λ _ wrong. absurd (wrong (subst IsTypable given.2 made.1));
-      parsed = λ _ _. values_parsed (Row (crossing (ways.typed_numbers k value) (placed_typed placed) (typed_status_of status_of) (typed_place_of place_of)) value)
+      parsed = λ _ _. values_parsed
+          (Row (crossing (ways.typed_numbers k value) (placed_typed placed) (typed_status_of status_of) (typed_place_of place_of)) value)
           (Row (typed_numbers k) (λ z. z)) g.N.Value.repr a.offset_type s a.texts.now (to_parsed a.values.now a.statuses.now)
           (to_parsed c.parse_in.new.values c.parse_in.new.statuses) (returned c.parse_in.result) (typed_row k value s)
           (c.parse_in.ensures s (given.0, given.1, made.0 ∙ given.2) (subst IsTypable (sym made.0) made.1));

@@ -9,7 +9,8 @@ returns c =
     let a = c.args in
     let given = c.in_ok-format.ensures in
     let made = c.in-Ok.ensures in
-    let takes : TypesDecimals c.in-Ok.parser = (subst IsTypable (sym made.0) made.1, c.marks_decimals.ensures.0 c.if-not-marks_decimals.false) in
+    let takes : TypesDecimals c.in-Ok.parser =
+    (subst IsTypable (sym made.0) made.1, c.marks_decimals.ensures.0 c.if-not-marks_decimals.false) in
     let under : ParsesUnder TypesDecimals (Row (typed_at_scale c.in_ok-scale.scale) (λ d. d.units)) decimal_units
     c.in_ok-offset_type.offset_type a.format.now a.texts.now (to_parsed a.units.now a.statuses.now)
     (to_parsed c.parse_in.new.values c.parse_in.new.statuses) (returned c.parse_in.result) = record {
