@@ -133,11 +133,12 @@ fn copy_symbol(text: &[u8], start: usize, array: &mut [u8]) -> Option<(usize, bo
     ensures within { IfSome result (λ s. (1 ≤ s.0) × (s.0 ≤ length text.now)) }
     ensures length { length array.new ≡ length array.old }
 {
-    if text[0].is_ascii_digit() {
-        return None;
-    }
-    array[start] = text[0];
-    if text[0].is_ascii() {
+    let first = text[0];
+    array[start] = first;
+    if first.is_ascii() {
+        if first.is_ascii_digit() {
+            return None;
+        }
         return Some((1, true));
     }
     if text.len() >= 2 && is_common_pair(&text[..2]) {
