@@ -1,5 +1,5 @@
-//! What is done with a text: strict parsing comes first, since most texts are as the format prints them, and one that it
-//! refuses is rewritten with the symbols of the format, and parsed again.
+//! What is done with a text: strict parsing comes first, since most texts are as the format prints them, and one that
+//! it refuses is rewritten with the symbols of the format, and parsed again.
 ghost use Rattle.std.specs.Prelude.{◌≡◌, ◌<◌, ◌≤◌, IfSome, MatchOption, MatchResult, Err, drop, length, nat_eq, true};
 ghost use Rattle.std.specs.Prelude.{false};
 ghost use Rattle.std.specs.List.{list_any, starts_with};

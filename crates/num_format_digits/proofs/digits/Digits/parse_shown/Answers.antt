@@ -15,7 +15,8 @@ use Rattle.num_format_digits.proofs.digits.Digits.parse_shown.Goals as goal
 
 -- the number of a text that is shown
 number : {A : Type 0} (R : Type 0) (k : Kind) (value : A → ℤ) (f d : FormatData) (z : ℕ) (t a : List ℕ) (result : Option A)
-    → IsUnambiguous f → IsZero z → HasPlainSymbols f → d ≡ f → t ≡ in_digits z a → MatchOption result R (λ n. ParsesStrictly k value d a (Ok n))
+    → IsUnambiguous f → IsZero z → HasPlainSymbols f → d ≡ f → t ≡ in_digits z a
+    → MatchOption result R (λ n. ParsesStrictly k value d a (Ok n))
     → IfSome result (λ n. IsUtf8 t × InDigits (numbers k value) placed f z t (Ok n))
 number R k value f d z t a None takes is symbols format same parsed = tt
 number R k value f d z t a (Some n) takes is symbols format same parsed =
