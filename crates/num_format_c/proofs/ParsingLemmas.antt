@@ -13,7 +13,7 @@ use Rattle.num_format_digits.specs.Parsing as ways
 use Rattle.num_format_digits.specs.declared.parsing.DigitsError.{DigitsError}
 use Rattle.num_format_digits.specs.declared.parsing.DigitsError.TheVariants as digits
 use Rattle.num_format_typed.specs.declared.error.TypedError.TheVariants as typed
-use Rattle.num_format_typed.specs.Typed.{IsTypable, ParsesTyped, TypedResult, map_error, placed}
+use Rattle.num_format_typed.specs.Typed.{IsTypable, ParsesTyped, TypedResult, map_error, place_in, placed}
 use Rattle.num_format_typed.specs.declared.error.TypedError.{TypedError}
 use Rattle.num_format_c.specs.Calls.{Crosses, Fails, Gets, Into, Parsing, Stores, code, crossed, crossing, digits_place_of}
 use Rattle.num_format_c.specs.Calls.{digits_status_of, mapped, numbers, place_after, place_of, status_of, typed_numbers, typed_place_of}
@@ -48,22 +48,6 @@ module _ {A X E : Type 0} (value : A → X) where
   error_mapped : (place : E → E) (q : Result A E) → mapped value (map_error place q) ≡ map_error place (mapped value q)
   error_mapped place (Ok x) = refl
   error_mapped place (Err e) = refl
-
-  -- typed parsing returns the images of values where strict parsing does
-  pub typed_mapped : {Taken : Type 0} (f : FormatData) (t : List ℕ) (ambiguous not_utf8 : E) (place : (ℕ → ℕ) → E → E)
-      (P : List ℕ → Result A E → Type 0) (R : List ℕ → Result X E → Type 0)
-      → ((t : List ℕ) (q : Result A E) → P t q → R t (mapped value q)) →
-      (q : Result A (TypedError E)) → TypedResult Taken f t ambiguous not_utf8 place P q
-      → TypedResult Taken f t ambiguous not_utf8 place R (mapped value q)
-  typed_mapped f t a n place P R up q (TypedResult.format_refused wrong is) = TypedResult.format_refused wrong (ap (mapped value) is)
-  typed_mapped f t a n place P R up q (TypedResult.printed ok x p is) =
-      TypedResult.printed ok (value x) (up t (Ok x) p) (ap (mapped value) is)
-  typed_mapped f t a n place P R up q (TypedResult.no_text ok e p wrong is) =
-      TypedResult.no_text ok e (up t (Err e) p) wrong (ap (mapped value) is)
-  typed_mapped f t a n place P R up q (TypedResult.too_long ok e p utf8 long is) =
-      TypedResult.too_long ok e (up t (Err e) p) utf8 long (ap (mapped value) is)
-  typed_mapped f t a n place P R up q (TypedResult.typed ok e p utf8 fits s r is) =
-      TypedResult.typed ok e (up t (Err e) p) utf8 fits (mapped value s) (up _ s r) (ap (mapped value) is ∙ error_mapped (place _) s)
 
   -- parsing in a digit set returns the images of values where that of the text with 0 to 9 does
   module _ (Takes : FormatData → Type 0) (ambiguous : E) (P : FormatData → List ℕ → Result A E → Type 0)
@@ -133,12 +117,15 @@ strict_mapped k value f t (Err d) p = record {
   );
 }
 
+-- typed parsing returns the number that a value is where strict parsing does
 pub typed_number_mapped : {A : Type 0} (k : Kind) (value : A → ℤ) (f : FormatData) (t : List ℕ) (q : Result A (TypedError StrictError))
-    → ParsesTyped k value f t q →
-    ParsesTyped k (λ z. z) f t (mapped value q)
-typed_number_mapped k value f t q p =
-    typed_mapped value f t cause.AmbiguousFormat cause.NotUtf8 placed (ParsesStrictly k value f) (ParsesStrictly k (λ z. z) f)
-    (λ t q. strict_mapped k value f t q) q p
+    → ParsesTyped k value f t q → ParsesTyped k (λ z. z) f t (mapped value q)
+typed_number_mapped k value f t q (TypedResult.format_refused wrong is) = TypedResult.format_refused wrong (ap (mapped value) is)
+typed_number_mapped k value f t q (TypedResult.no_text taken wrong is) = TypedResult.no_text taken wrong (ap (mapped value) is)
+typed_number_mapped k value f t q (TypedResult.too_long taken utf8 long is) = TypedResult.too_long taken utf8 long (ap (mapped value) is)
+typed_number_mapped k value f t q (TypedResult.typed taken utf8 fits s r is) =
+    TypedResult.typed taken utf8 fits (mapped value s) (strict_mapped k value f _ s r)
+    (ap (mapped value) is ∙ error_mapped value (placed (place_in f t)) s)
 
 -- in a digit set too, and in a row of a column
 module _ {A : Type 0} (k : Kind) (value : A → ℤ) where

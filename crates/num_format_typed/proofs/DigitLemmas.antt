@@ -22,7 +22,7 @@ class_of-digit c digit = rw (of-digit Comma c digit, of-digit Point c digit, of-
 pub put-digit : (separator mark : List ℕ) → KeepsDigits (put separator mark)
 put-digit separator mark c digit = ap (λ k. own_or separator mark k c) (class_of-digit c digit)
 
-ascii : (d : ℕ) → is_ascii_digit d ≡ true → d < 128
+pub ascii : (d : ℕ) → is_ascii_digit d ≡ true → d < 128
 ascii d digit = grind (arith, nat_tests)
 
 -- a text that begins with a digit

@@ -1,7 +1,9 @@
+pub mod CanonicalLemmas
 pub mod ClassLemmas
 pub mod DigitLemmas
 pub mod LawLemmas
 pub mod LocaleLemmas
+pub mod PrintedLemmas
 pub mod RewritingLemmas
 pub mod SignLemmas
 pub mod TypableLemmas

@@ -7,22 +7,23 @@ use Rattle.num_format_parsing.specs.declared.error.StrictError.{StrictError}
 use Rattle.num_format_decimal.specs.FixedPoint.{FixedPoint}
 use Rattle.num_format_decimal.specs.Parsing.{ParsesAtScale, ParsesDecimal}
 use Rattle.num_format_decimal.specs.declared.parsing.ParseAtScaleError.{ParseAtScaleError}
-use Rattle.num_format_typed.specs.Typed.{IsTypable, ParsesTyped, TypedAtScaleResult, TypedDecimalResult}
+use Rattle.num_format_typed.specs.Typed.{HasSymbols, IsTypable, ParsesTyped, TypedAtScaleResult, TypedDecimalResult}
 use Rattle.num_format_typed.specs.declared.error.TypedError.{TypedError}
 
--- under a format that is typable, a text that strict parsing accepts is typed for the same number
+-- under a format that is typable, and has such symbols as each format has, a text that strict parsing accepts is typed for the same number
 abbrev pub PrintedLaw : {X : Type 0} → Kind → (X → ℤ) → Type 0
 PrintedLaw {X} k value = (f : FormatData) (t : List ℕ) (x : X) (result : Result X (TypedError StrictError)) →
-    IsTypable f → ParsesStrictly k value f t (Ok x) → ParsesTyped k value f t result → (y : X) × (result ≡ Ok y) × (value y ≡ value x)
+    HasSymbols f → IsTypable f → ParsesStrictly k value f t (Ok x) → ParsesTyped k value f t result
+    → (y : X) × (result ≡ Ok y) × (value y ≡ value x)
 
 -- and for the same decimal, at a scale too
 abbrev pub PrintedDecimalLaw : Type 0
 PrintedDecimalLaw = (f : FormatData) (t : List ℕ) (d : FixedPoint) (result : Result FixedPoint (TypedError StrictError)) →
-    IsTypable f → ParsesDecimal f t d → TypedDecimalResult f t result → result ≡ Ok d
+    HasSymbols f → IsTypable f → ParsesDecimal f t d → TypedDecimalResult f t result → result ≡ Ok d
 
 abbrev pub PrintedAtScaleLaw : Type 0
 PrintedAtScaleLaw = (f : FormatData) (t : List ℕ) (scale : ℕ) (d : FixedPoint) (result : Result FixedPoint (TypedError ParseAtScaleError)) →
-    IsTypable f → ParsesAtScale f t scale d → TypedAtScaleResult f t scale result → result ≡ Ok d
+    HasSymbols f → IsTypable f → ParsesAtScale f t scale d → TypedAtScaleResult f t scale result → result ≡ Ok d
 
 -- a text is typed for one number at most, and for one decimal
 abbrev pub OnceLaw : {X : Type 0} → Kind → (X → ℤ) → Type 0

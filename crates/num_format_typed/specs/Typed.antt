@@ -6,6 +6,7 @@ use Rattle.std.specs.Int.{is_in_range}
 use Rattle.std.specs.List.{find, list_all, list_any, starts_with}
 use Rattle.std.specs.Option.{option_or}
 use Rattle.std.specs.Str.{chars, encode_utf8_all}
+use Rattle.num_format_text.specs.declared.capacities.TheConstants.{MAX_DEC_LEN, MAX_MIN_LEN, MAX_SEP_LEN}
 use Rattle.num_format_text.specs.Format.{FormatData}
 use Rattle.num_format_int.specs.Grouped.{printed_separator}
 use Rattle.num_format_int.specs.Kind.{Kind}
@@ -84,6 +85,15 @@ pub record IsTypable (f : FormatData) : Type 0 where
   pub no_plus : begins_with Plus (core_of f) ≡ false
   pub apart : has_shared (separator_of f) f.decimal (core_of f) ≡ false
 
+-- the symbols of a format are UTF-8, and no longer than there is room for, as those of each format are
+pub record HasSymbols (f : FormatData) : Type 0 where
+  pub sign : IsUtf8 f.minus_sign
+  pub separator : IsUtf8 f.separator
+  pub mark : IsUtf8 f.decimal
+  pub sign_len : length f.minus_sign ≤ MAX_MIN_LEN
+  pub separator_len : length f.separator ≤ MAX_SEP_LEN
+  pub mark_len : length f.decimal ≤ MAX_DEC_LEN
+
 -- the decimal marks of locales, and their separators and those of keyboards
 abbrev pub usual_marks : List (List ℕ)
 usual_marks = codes "." ∷ codes "," ∷ (0xD9 ∷ 0xAB ∷ []) ∷ []
@@ -130,9 +140,19 @@ is_signed f t = has_minus f t && list_any is_nonzero_digit (body_of f t) || star
 abbrev pub sign_of : FormatData → List ℕ → List ℕ
 sign_of f t = if is_signed f t then f.minus_sign else []
 
--- what a typed text stands for: the format's own minus sign, if there is one, and the format's own characters for those that were typed
+-- a trimmed text with the format's own minus sign, if there is one, and the format's own characters for those that were typed
+abbrev pub rewritten : FormatData → List ℕ → List ℕ
+rewritten f t = sign_of f t ++ images (put (separator_of f) f.decimal) (body_of f t)
+
+-- what a typed text stands for
 abbrev pub typed_text : FormatData → List ℕ → List ℕ
-typed_text f t = sign_of f (trimmed t) ++ images (put (separator_of f) f.decimal) (body_of f (trimmed t))
+typed_text f t = rewritten f (trimmed t)
+
+-- a text stands for itself, and is short enough
+pub record IsPrinted (f : FormatData) (t : List ℕ) : Type 0 where
+  pub utf8 : IsUtf8 t
+  pub same : typed_text f t ≡ t
+  pub short : length t ≤ MAX_DECIMAL_LEN
 
 -- the place in a text where its body begins
 abbrev pub body_start : FormatData → List ℕ → ℕ
@@ -153,32 +173,23 @@ abbrev pub map_error : {X E : Type 0} → (E → E) → Result X E → Result X 
 map_error place (Ok x) = Ok x
 map_error place (Err e) = Err (Number (place e))
 
--- what parsing returns of a text, of five: no text is parsed under the format; strict parsing reads the text itself; the bytes are no text;
--- the typed text is too long; or else what strict parsing returns of the typed text. Each is returned exactly if its conditions hold, since
--- these exclude one another
-pub data TypedResult {X E : Type 0} (Taken : Type 0) (f : FormatData) (t : List ℕ) (ambiguous not_utf8 : E) (place : (ℕ → ℕ) → E → E)
-    (parses : List ℕ → Result X E → Type 0) (result : Result X (TypedError E)) : Type 0 where
-  format_refused : ¬ Taken → result ≡ Err (Number ambiguous) → TypedResult Taken f t ambiguous not_utf8 place parses result
-  printed : Taken → (x : X) → parses t (Ok x) → result ≡ Ok x → TypedResult Taken f t ambiguous not_utf8 place parses result
-  no_text : Taken → (e : E) → parses t (Err e) → ¬ (IsUtf8 t) → result ≡ Err (Number not_utf8)
-      → TypedResult Taken f t ambiguous not_utf8 place parses result
-  too_long : Taken → (e : E) → parses t (Err e) → IsUtf8 t → MAX_DECIMAL_LEN < length (typed_text f t) → result ≡ Err TooLong
-      → TypedResult Taken f t ambiguous not_utf8 place parses result
-  typed : Taken → (e : E) → parses t (Err e) → IsUtf8 t → length (typed_text f t) ≤ MAX_DECIMAL_LEN → (strict : Result X E)
-      → parses (typed_text f t) strict → result ≡ map_error (place (place_in f t)) strict
-      → TypedResult Taken f t ambiguous not_utf8 place parses result
-
--- what parsing returns of a text by the strict parsing that takes such formats
-abbrev pub TypedBy : {X : Type 0} → (FormatData → Type 0) → (FormatData → List ℕ → Result X StrictError → Type 0) → FormatData → List ℕ
-    → Result X (TypedError StrictError) → Type 0
-TypedBy Taken parses f t = TypedResult (Taken f) f t strict.AmbiguousFormat strict.NotUtf8 placed (parses f)
+-- what parsing returns of a text by the strict parsing that takes such formats, of four: no text is parsed under the format; the bytes are
+-- no text; the typed text is too long; or else what strict parsing returns of the typed text. Each is returned exactly if its conditions
+-- hold, since these exclude one another
+pub data TypedResult {X : Type 0} (Takes : FormatData → Type 0) (parses : FormatData → List ℕ → Result X StrictError → Type 0)
+    (f : FormatData) (t : List ℕ) (result : Result X (TypedError StrictError)) : Type 0 where
+  format_refused : ¬ (Takes f) → result ≡ Err (Number strict.AmbiguousFormat) → TypedResult Takes parses f t result
+  no_text : Takes f → ¬ (IsUtf8 t) → result ≡ Err (Number strict.NotUtf8) → TypedResult Takes parses f t result
+  too_long : Takes f → IsUtf8 t → MAX_DECIMAL_LEN < length (typed_text f t) → result ≡ Err TooLong → TypedResult Takes parses f t result
+  typed : Takes f → IsUtf8 t → length (typed_text f t) ≤ MAX_DECIMAL_LEN → (parsed : Result X StrictError)
+      → parses f (typed_text f t) parsed → result ≡ map_error (placed (place_in f t)) parsed → TypedResult Takes parses f t result
 
 -- what parsing returns of a text as a whole number of a kind, and as a decimal
 abbrev pub ParsesTyped : {X : Type 0} → Kind → (X → ℤ) → FormatData → List ℕ → Result X (TypedError StrictError) → Type 0
-ParsesTyped k value = TypedBy IsTypable (ParsesStrictly k value)
+ParsesTyped k value = TypedResult IsTypable (ParsesStrictly k value)
 
 abbrev pub TypedDecimalResult : FormatData → List ℕ → Result FixedPoint (TypedError StrictError) → Type 0
-TypedDecimalResult = TypedBy (λ f. IsTypable f × MarksDecimals f) DecimalResult
+TypedDecimalResult = TypedResult (λ f. IsTypable f × MarksDecimals f) DecimalResult
 
 -- why a decimal has no such scale
 abbrev pub IsScaleCause : FixedPoint → (scale : ℕ) → TypedError ParseAtScaleError → Type 0

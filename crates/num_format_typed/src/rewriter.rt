@@ -1,5 +1,5 @@
-//! What is done with a text: strict parsing comes first, since most texts are as the format prints them, and one that
-//! it refuses is rewritten with the symbols of the format, and parsed again.
+//! What is done with a text: it is rewritten with the symbols of the format, and parsed strictly. Most texts are as the
+//! format prints them, but for blanks at their ends, and stand for themselves: so these are parsed first as they are.
 ghost use Rattle.std.specs.Prelude.{◌≡◌, ◌<◌, ◌≤◌, IfSome, MatchOption, MatchResult, Err, drop, length, nat_eq, true};
 ghost use Rattle.std.specs.Prelude.{false};
 ghost use Rattle.std.specs.List.{list_any, starts_with};
@@ -8,8 +8,8 @@ ghost use Rattle.num_format_decimal.specs.Marks.{MarksDecimals};
 ghost use Rattle.num_format_decimal.specs.Parsing.{DecimalResult};
 ghost use Rattle.num_format_parsing.specs.Strict.{ParsesStrictly};
 ghost use Rattle.num_format_parsing.specs.declared.error.StrictError.TheVariants as strict;
-ghost use Rattle.num_format_typed.specs.Typed.{IsTypable, TypedBy, body_of, core_of, has_minus, is_nonzero_digit};
-ghost use Rattle.num_format_typed.specs.Typed.{place_in, placed, separator_of, sign_of, typed_text, unsigned};
+ghost use Rattle.num_format_typed.specs.Typed.{HasSymbols, IsPrinted, IsTypable, TypedResult, body_of, core_of};
+ghost use Rattle.num_format_typed.specs.Typed.{has_minus, is_nonzero_digit, place_in, placed, rewritten, separator_of, sign_of, unsigned};
 
 use crate::classes::Class;
 use crate::error::TypedError;
@@ -19,6 +19,7 @@ use crate::rewriting::{
 use crate::symbols::{Symbols, core_of, has_usual_symbols, is_typable};
 use crate::utf8::text_of;
 use num_format_decimal::{Decimal, DecimalParser, MAX_DECIMAL_LEN};
+use num_format_int::sealed::Sealed;
 use num_format_parsing::bytes::is_prefix;
 use num_format_parsing::{FromFormattedStr, StrictError, StrictParser};
 use num_format_text::Format;
@@ -26,7 +27,7 @@ use std::marker::Model;
 
 /// Strict parsing under one format: of whole numbers of a type, or of decimals.
 pub(crate) trait Strict<'a, T, F: Format>: Drop {
-    ghost use Rattle.std.specs.Prelude.{◌≡◌, List, ℕ, MatchOption, Ok, Err, Result};
+    ghost use Rattle.std.specs.Prelude.{◌≡◌, List, ℕ, IfSome, Ok, Result};
     ghost use Rattle.num_format_text.specs.Format.{FormatData};
     ghost use Rattle.num_format_parsing.specs.declared.error.StrictError.{StrictError};
 
@@ -41,10 +42,13 @@ pub(crate) trait Strict<'a, T, F: Format>: Drop {
         requires { Taken (F.answers format.now) }
         ensures { answers result ≡ F.answers format.now };
 
-    /// Returns the number for which the text of the bytes is canonical, or `None` if they are refused.
+    /// Returns the number for which the text of the bytes is canonical, or `None` if they are refused. Such a text
+    /// stands for itself.
     fn number(&self, bytes: &[u8]) -> Option<T>
-        ensures { MatchOption result ((e : StrictError) × Parses (answers self.now) bytes.now (Err e))
-            (λ x. Parses (answers self.now) bytes.now (Ok x)) };
+        requires typable { IsTypable (answers self.now) }
+        requires symbols { HasSymbols (answers self.now) }
+        ensures { IfSome result (λ x. IsPrinted (answers self.now) bytes.now
+            × Parses (answers self.now) bytes.now (Ok x)) };
 
     /// Returns the number for which the text of the bytes is canonical, or why they are refused.
     fn parse(&self, bytes: &[u8]) -> Result<T, StrictError>
@@ -65,6 +69,8 @@ impl<'a, N: FromFormattedStr, F: Format> Strict<'a, N, F> for StrictParser<'a, F
 
     #[inline(always)]
     fn number(&self, bytes: &[u8]) -> Option<N> {
+        // Its contract says that no value has more than 128 bits.
+        N::is_wide();
         self.number(bytes)
     }
 
@@ -113,14 +119,15 @@ pub(crate) struct Rewriter<'a, F: Format> {
 impl<'a, F: Format> Model for Rewriter<'a, F> {
     ghost use Rattle.std.specs.Prelude.{◌≡◌};
     ghost use Rattle.num_format_text.specs.Format.{FormatData};
-    ghost use Rattle.num_format_typed.specs.Typed.{IsTypable};
+    ghost use Rattle.num_format_typed.specs.Typed.{HasSymbols, IsTypable};
 
     ghost Value = { FormatData };
 
     ghost view = { λ r. r.numbers };
 
     ghost invariant = { λ r.
-        (F.answers r.format.now ≡ r.numbers) × (r.mark.now ≡ r.numbers.decimal) × IsTypable r.numbers };
+        (F.answers r.format.now ≡ r.numbers) × (r.mark.now ≡ r.numbers.decimal)
+        × (IsTypable r.numbers × HasSymbols r.numbers) };
 }
 
 impl<'a, F: Format> Rewriter<'a, F> {
@@ -151,6 +158,7 @@ impl<'a, F: Format> Rewriter<'a, F> {
         requires { IsTypable (F.answers format.now) }
         ensures { result ≡ F.answers format.now }
     {
+        know_symbols(format);
         Rewriter {
             format,
             numbers: StrictParser::unambiguous(format),
@@ -176,8 +184,10 @@ impl<'a, F: Format> Rewriter<'a, F> {
     ) -> Result<T, TypedError<StrictError>>
         requires same { P.answers parser.now ≡ self.now }
         requires taken { P.Taken self.now }
-        ensures { TypedBy P.Taken P.Parses self.now bytes.now result }
+        ensures { TypedResult P.Taken P.Parses self.now bytes.now result }
     {
+        // The contract says what is known of the format.
+        self.numbers();
         match parser.number(bytes) {
             Some(number) => Ok(number),
             None => match text_of(bytes) {
@@ -187,8 +197,8 @@ impl<'a, F: Format> Rewriter<'a, F> {
         }
     }
 
-    /// Returns the number that a text means which strict parsing refuses. It makes a rewriter of its own, so that the
-    /// caller's stays in registers.
+    /// Returns the number that a text means, which strict parsing refuses as it stands. It makes a rewriter of its own,
+    /// so that the caller's stays in registers.
     #[cold]
     #[inline(never)]
     fn parse_refused<T, P: Strict<'a, T, F>>(
@@ -197,14 +207,22 @@ impl<'a, F: Format> Rewriter<'a, F> {
     ) -> Result<T, TypedError<StrictError>>
         requires typable { IsTypable (F.answers format.now) }
         requires taken { P.Taken (F.answers format.now) }
-        requires refused { (e : StrictError) × P.Parses (F.answers format.now) text.now (Err e) }
-        ensures { TypedBy P.Taken P.Parses (F.answers format.now) text.now result }
+        ensures { TypedResult P.Taken P.Parses (F.answers format.now) text.now result }
     {
+        know_symbols(format);
+        let parser = P::under(format);
+        let trimmed = without_ends(text, Class::End);
+        // Most texts that strict parsing refuses have a blank at an end, as what is pasted has.
+        if trimmed.len() < text.len() {
+            if let Some(number) = parser.number(trimmed.as_bytes()) {
+                return Ok(number);
+            }
+        }
         let mut array = [0; MAX_DECIMAL_LEN];
-        let Some(typed) = Rewriter::typable(format).rewrite(text, &mut array) else {
+        let Some(typed) = Rewriter::typable(format).rewrite(trimmed, &mut array) else {
             return Err(TypedError::TooLong);
         };
-        match P::under(format).parse(typed) {
+        match parser.parse(typed) {
             Ok(number) => Ok(number),
             Err(error) => Err(TypedError::Number(Rewriter::placed(format, text, error))),
         }
@@ -227,6 +245,7 @@ impl<'a, F: Format> Rewriter<'a, F> {
     pub(crate) fn numbers(&self) -> &StrictParser<'a, F>
         ensures same { result.now ≡ self.now }
         ensures typable { IsTypable self.now }
+        ensures symbols { HasSymbols self.now }
     {
         &self.numbers
     }
@@ -243,16 +262,16 @@ impl<'a, F: Format> Rewriter<'a, F> {
         }
     }
 
-    /// Writes the bytes that a typed text stands for to the start of an array, and returns them, or `None` if they are
-    /// too many.
+    /// Writes the bytes that a trimmed text stands for to the start of an array, and returns them, or `None` if they
+    /// are too many.
     #[inline(always)]
     fn rewrite<'s>(&self, text: &str, array: &'s mut [u8]) -> Option<&'s [u8]>
         requires { length array.old ≡ MAX_DECIMAL_LEN }
-        ensures text { MatchOption result (MAX_DECIMAL_LEN < length (typed_text self.now text.now))
-            (λ typed. typed.now ≡ typed_text self.now text.now) }
+        ensures text { MatchOption result (MAX_DECIMAL_LEN < length (rewritten self.now text.now))
+            (λ typed. typed.now ≡ rewritten self.now text.now) }
         ensures fits { IfSome result (λ typed. length typed.now ≤ MAX_DECIMAL_LEN) }
     {
-        let (sign, body) = self.sign_and_body(without_ends(text, Class::End));
+        let (sign, body) = self.sign_and_body(text);
         rewrite(sign, body, &self.symbols(), array)
     }
 
@@ -327,6 +346,16 @@ impl<'a, F: Format> Rewriter<'a, F> {
         let room = at.saturating_sub(sign.len());
         start + bytes_within(room, body, &self.symbols())
     }
+}
+
+/// Asks a format for its symbols, for what the getters promise: they are UTF-8, and no longer than there is room for.
+#[inline(always)]
+fn know_symbols<F: Format>(format: &F)
+    ensures { HasSymbols (F.answers format.now) }
+{
+    format.minus_sign().into_str();
+    format.separator().into_str();
+    format.decimal().into_str();
 }
 
 /// Returns a text without a prefix, or `None` if it does not begin with it.

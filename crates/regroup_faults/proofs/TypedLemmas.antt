@@ -59,16 +59,12 @@ module _ (f : FormatData) (utf8 : HasUtf8Texts f) where
       (Decides-and _ _ (not-true _, not_from_false _) (not-true _, not_from_false _))))))
 
   module _ (t : List ℕ) where
-    refused-none : (e : StrictError) → DecimalResult f t (Err e) → decimal_read f t ≡ None
-    refused-none e result = decimal_read-none f utf8 t (λ d parsed. let is = (result.decimal d).1 parsed in absurd (cc is))
-
     -- a text that is typed for a number is UTF-8
     pub typed-utf8 : (d : FixedPoint) → TypedDecimalResult f t (Ok d) → IsUtf8 t
     typed-utf8 d (TypedResult.format_refused not is) = absurd (cc is)
-    typed-utf8 d (TypedResult.printed taken x parses is) = parsed-utf8 f utf8 t x ((parses.decimal x).0 refl)
-    typed-utf8 d (TypedResult.no_text taken e parses not is) = absurd (cc is)
-    typed-utf8 d (TypedResult.too_long taken e parses text long is) = absurd (cc is)
-    typed-utf8 d (TypedResult.typed taken e parses text short strict second is) = text
+    typed-utf8 d (TypedResult.no_text taken not is) = absurd (cc is)
+    typed-utf8 d (TypedResult.too_long taken text long is) = absurd (cc is)
+    typed-utf8 d (TypedResult.typed taken text short strict second is) = text
 
     short-or : (strict : Result FixedPoint StrictError) → DecimalResult f (typed_text f t) strict
         → decimal_read f (typed_text f t) ≡ result_ok strict
@@ -80,17 +76,15 @@ module _ (f : FormatData) (utf8 : HasUtf8Texts f) where
     unfolding typed_read
     typed_read-is text r (TypedResult.format_refused not is) =
         rw (false_from_ne_true (types_decimals f) (λ yes. not (types-Decides.0 yes)), is) refl
-    typed_read-is text r (TypedResult.printed taken d parses is) =
-        rw (types-Decides.1 taken, decimal_read-parsed f utf8 t d ((parses.decimal d).0 refl), is) refl
-    typed_read-is text r (TypedResult.no_text taken e parses not is) = absurd (not text)
-    typed_read-is text r (TypedResult.too_long taken e parses utf8_text long is) =
+    typed_read-is text r (TypedResult.no_text taken not is) = absurd (not text)
+    typed_read-is text r (TypedResult.too_long taken utf8_text long is) =
         let many : nat_le (length (typed_text f t)) MAX_DECIMAL_LEN ≡ false =
         false_from_ne_true _ (λ few. omega (arith, leb-true _ _ few, long)) in
-        rw (types-Decides.1 taken, refused-none e parses, many, is) refl
-    typed_read-is text r (TypedResult.typed taken e parses utf8_text short (Ok d) second is) =
-        rw (types-Decides.1 taken, refused-none e parses, le-leb _ _ short, short-or (Ok d) second, is) refl
-    typed_read-is text r (TypedResult.typed taken e parses utf8_text short (Err e2) second is) =
-        rw (types-Decides.1 taken, refused-none e parses, le-leb _ _ short, short-or (Err e2) second, is) refl
+        rw (types-Decides.1 taken, many, is) refl
+    typed_read-is text r (TypedResult.typed taken utf8_text short (Ok d) second is) =
+        rw (types-Decides.1 taken, le-leb _ _ short, short-or (Ok d) second, is) refl
+    typed_read-is text r (TypedResult.typed taken utf8_text short (Err e) second is) =
+        rw (types-Decides.1 taken, le-leb _ _ short, short-or (Err e) second, is) refl
 
     why-strict : (strict : Result FixedPoint StrictError) → DecimalResult f (typed_text f t) strict
         → (r : Result FixedPoint (TypedError StrictError)) → r ≡ map_error (placed (place_in f t)) strict
@@ -103,12 +97,10 @@ module _ (f : FormatData) (utf8 : HasUtf8Texts f) where
     unfolding why_untyped
     why_untyped-is text r (TypedResult.format_refused not is) =
         rw (false_from_ne_true (types_decimals f) (λ yes. not (types-Decides.0 yes)), is) refl
-    why_untyped-is text r (TypedResult.printed taken d parses is) =
-        rw (types-Decides.1 taken, decimal_read-parsed f utf8 t d ((parses.decimal d).0 refl), is) refl
-    why_untyped-is text r (TypedResult.no_text taken e parses not is) = absurd (not text)
-    why_untyped-is text r (TypedResult.too_long taken e parses utf8_text long is) =
-        rw (types-Decides.1 taken, refused-none e parses, lt-ltb _ _ long, is) refl
-    why_untyped-is text r (TypedResult.typed taken e parses utf8_text short strict second is) =
+    why_untyped-is text r (TypedResult.no_text taken not is) = absurd (not text)
+    why_untyped-is text r (TypedResult.too_long taken utf8_text long is) =
+        rw (types-Decides.1 taken, lt-ltb _ _ long, is) refl
+    why_untyped-is text r (TypedResult.typed taken utf8_text short strict second is) =
         let few : nat_lt MAX_DECIMAL_LEN (length (typed_text f t)) ≡ false =
         false_from_ne_true _ (λ many. omega (arith, ltb-true _ _ many, short)) in
-        rw (types-Decides.1 taken, refused-none e parses, few) (why-strict strict second r is)
+        rw (types-Decides.1 taken, few) (why-strict strict second r is)

@@ -56,11 +56,10 @@ types_decimals format =
     && (not (bytes_eq (core_of format) []) && (not (begins_with End (core_of format))
     && (not (begins_with Plus (core_of format)) && not (has_shared (separator_of format) format.decimal (core_of format))))))
 
--- the decimal that a person means by the text, if decimals can be told so: the one for which it is canonical, or else that of the text with
--- the format's own characters, if that is no longer than the text of any number
+-- the decimal that a person means by the text, if decimals can be told so: that of the text with the format's own characters, if that is no
+-- longer than the text of any number
 unfoldable pub typed_read : FormatData → List ℕ → Option FixedPoint
 typed_read format text =
-    if types_decimals format
-    then option_or (decimal_read format text)
-    (if nat_le (length (typed_text format text)) MAX_DECIMAL_LEN then decimal_read format (typed_text format text) else None)
+    if types_decimals format && nat_le (length (typed_text format text)) MAX_DECIMAL_LEN
+    then decimal_read format (typed_text format text)
     else None

@@ -98,7 +98,6 @@ why_placed place image known = known
 unfoldable pub why_untyped : FormatData → List ℕ → Why
 why_untyped from text =
     if not (types_decimals from) then why.Unknown else
-    if is_some (decimal_read from text) then why.Unknown else
     if nat_lt MAX_DECIMAL_LEN (length (typed_text from text)) then why.TooLong else
     why_placed (place_in from text) (λ c. c) (why_refused from (typed_text from text))
 
