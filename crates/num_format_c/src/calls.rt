@@ -381,6 +381,11 @@ pub fn parse_typed_decimal(
     ensures { Gets typed_decimals (λ d. d) format.now text.now at.old at.new result }
 {
     let (format, digits) = FormatRef::new(format)?;
+    if !digits.is_latin() {
+        if let Some(number) = digits.parse_shown_typed_decimal(text, &format) {
+            return Ok(number);
+        }
+    }
     match in_others(text, digits) {
         None => crossed(parse_typed_decimal_bytes(text, &format), at),
         Some(text) => crossed(digits.parse_typed_decimal(text, &format), at),

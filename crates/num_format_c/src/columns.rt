@@ -34,7 +34,7 @@ use crate::wide::scale_of;
 use num_format::Format;
 use num_format::parsing::StrictParser;
 use num_format_decimal::{Decimal, DecimalBuffer, DecimalParser, MAX_DECIMAL_LEN};
-use num_format_digits::printing::MAX_DIGIT_TEXT_LEN;
+use num_format_digits::printing::{MAX_DIGIT_TEXT_LEN, shown_len};
 use num_format_digits::{AtScale, DigitText, Digits, TextParser};
 use num_format_int::buffer::PutFront;
 use num_format_int::to_formatted_str::put_text;
@@ -189,7 +189,9 @@ impl<'a, P: Printer> Printer for DigitPrinter<'a, P> {
     }
 
     fn text_len(&self, row: usize) -> usize {
-        self.text(row).as_str().len()
+        let mut ascii = DecimalBuffer::new();
+        self.printer.print(row, &mut ascii);
+        shown_len(ascii.as_bytes(), self.digits)
     }
 
     fn print<B: PutFront>(&self, row: usize, texts: &mut B) {

@@ -12,7 +12,7 @@ use crate::format::{FormatRef, NumFormat};
 use crate::status::Status;
 use num_format::{Buffer, ToFormattedStr};
 use num_format_decimal::{Decimal, DecimalBuffer};
-use num_format_digits::printing::put_text;
+use num_format_digits::printing::{put_text, shown_len};
 use num_format_digits::{DigitText, Digits};
 
 /// Prints the number at the start of the array, and returns the length of the text.
@@ -36,7 +36,7 @@ pub fn text_len<N: ToFormattedStr>(format: &NumFormat, number: &N) -> Result<i32
     ensures { ReturnsLength format.now (λ f. text_of f (N.value number.now)) (returned result) }
 {
     let (format, digits) = FormatRef::new(format)?;
-    Ok(DigitText::of(number, &format, digits).as_str().len() as i32)
+    Ok(shown_len(Buffer::of(number, &format).as_bytes(), digits) as i32)
 }
 
 /// Prints the decimal at the start of the array, and returns the length of the text.
@@ -56,11 +56,7 @@ pub fn decimal_len(format: &NumFormat, number: &Decimal) -> Result<i32, Status>
     ensures { ReturnsLength format.now (λ f. decimal_text f number.now) (returned result) }
 {
     let (format, digits) = FormatRef::new(format)?;
-    Ok(
-        DigitText::of_decimal(number, &format, digits)
-            .as_str()
-            .len() as i32,
-    )
+    Ok(shown_len(DecimalBuffer::of(number, &format).as_bytes(), digits) as i32)
 }
 
 /// Writes the text in the digits at the start of the array, and returns its length.

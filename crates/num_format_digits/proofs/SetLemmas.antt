@@ -1,6 +1,6 @@
 -- What holds of each digit set, and of its digits.
 use Rattle.std.proofs.Common.{◌≡◌, ℕ, ◌+◌, ◌-◌, ◌<◌, ◌≤◌, inl, inr, Bool, true, false, not, ◌&&◌, ◌||◌, suc, zero, List, [], ◌∷◌, ◌++◌}
-use Rattle.std.proofs.Common.{◌%◌, length, take, drop, get_or, refl, ap, ◌∙◌, sym, subst, arith}
+use Rattle.std.proofs.Common.{◌%◌, length, length-append, take, drop, get_or, refl, ap, ◌∙◌, sym, subst, arith}
 use Rattle.std.specs.Prelude.{All, Contains, None, Some, bytes_eq, ◌==◌, nat_lt, nat_le, encode_utf8, map}
 use Rattle.std.specs.Char.{is_ascii_digit, IsScalar}
 use Rattle.std.specs.List.{list_all, list_any}
@@ -129,6 +129,21 @@ zero-raised z w d bytes is small has =
     ∙ take-take (w - 1) w bytes (omega arith) in
     sym (digit-bytes z d is small ∙ ap (λ xs. xs ++ (get_or (encode_utf8 z) (length (encode_utf8 z) - 1) 0 + d) ∷ []) front
     ∙ ap (λ b. take (w - 1) bytes ++ (b + d) ∷ []) (last z w bytes has))
+
+-- a digit has as many bytes as the zero
+pub shown-width : (z w b : ℕ) (bytes : List ℕ) → IsZero z → HasZero z w bytes → is_ascii_digit b ≡ true → length (shown_byte z b) ≡ w
+shown-width z w b bytes is has digit =
+    let zero = encode_utf8 z in
+    let small : b - 48 < 10 = grind (arith, nat_tests, digit) in
+    let some : 1 ≤ length zero = omega (arith, width z w bytes has, has.some) in
+    let raised : length (encode_utf8 (z + (b - 48))) ≡ length (last_raised zero (b - 48)) = ap length (digit-bytes z (b - 48) is small) in
+    rw digit (omega (
+      arith,
+      raised,
+      length-append (take (length zero - 1) zero) ((get_or zero (length zero - 1) 0 + (b - 48)) ∷ []),
+      length-take-le (length zero - 1) zero (omega arith),
+      width z w bytes has,
+    ))
 
 -- bytes that are those of the zero but for the last, which is higher by at most nine, are those of a digit
 pub digit-taken : (z w : ℕ) (bytes text : List ℕ) → IsZero z → HasZero z w bytes → take (w - 1) text ≡ take (w - 1) bytes

@@ -105,6 +105,15 @@ impl Digits {
         self.parse_shown_by(text, &parser)
     }
 
+    /// Does the same for a decimal that a person types.
+    pub fn parse_shown_typed_decimal<F: Format>(self, text: &[u8], format: &F) -> Option<Decimal>
+        ensures { IfSome result (λ d. IsUtf8 text.now
+            × InDigits typed_decimals (placed_typed placed) (F.answers format.now) self text.now (Ok d)) }
+    {
+        let parser = typed_parser(format)?;
+        self.parse_shown_by(text, &Decimals(parser))
+    }
+
     /// Returns the decimal for which the text is canonical in the digits of the set.
     ///
     /// ```rust
@@ -299,7 +308,8 @@ impl Digits {
 /// Returns a parser of decimals that people type under the format, if that marks decimals.
 fn typed_parser<F: Format>(format: &F) -> Option<TypedParser<'_, F>>
     ensures { MatchOption result (¬ (IsTypable (F.answers format.now) × MarksDecimals (F.answers format.now)))
-        (λ parser. (parser ≡ F.answers format.now) × IsTypable parser × MarksDecimals parser) }
+        (λ parser. (parser ≡ F.answers format.now)
+        × IsTypable (F.answers format.now) × MarksDecimals (F.answers format.now)) }
 {
     let parser = TypedParser::new(format).ok()?;
     parser.marks_decimals().then_some(parser)

@@ -99,6 +99,22 @@ impl DigitText {
     }
 }
 
+/// Returns how many bytes a text has with the set's digits for `0` to `9`.
+///
+/// For callers that need no text.
+pub fn shown_len(text: &[u8], digits: Digits) -> usize
+    requires { length text.now ≤ MAX_DECIMAL_LEN }
+    ensures len { result ≡ length (in_digits digits text.now) }
+    ensures fits { result ≤ MAX_DIGIT_TEXT_LEN }
+{
+    let (_, width) = digits.zero_bytes();
+    let mut len = 0;
+    for byte in text.iter() {
+        len += if byte.is_ascii_digit() { width } else { 1 };
+    }
+    len
+}
+
 /// Writes a text with the set's digits for `0` to `9` to the start of an array, and returns its length in bytes.
 ///
 /// For callers that have an array. Each byte of the text needs four, and what is after the text stays.

@@ -3,8 +3,8 @@
 //! Any file may be changed. A text as a person types it, or "typed" for short (no data type is meant), is rewritten
 //! with the characters of its format, one for one, and then parsed strictly. One that the format prints stays as it is.
 //! So a keyboard's space, apostrophe and hyphen stand for those that the format prints. A plus sign, a minus sign
-//! before zero and blanks at both ends are dropped. Other groups, a missing digit or a sign at the end are refused as strict
-//! parsing refuses them.
+//! before zero and blanks at both ends are dropped. Other groups, a missing digit or a sign at the end are refused as
+//! strict parsing refuses them.
 //!
 //! ```rust
 //! parse_typed::<i32, _>("-1 234", &Locale::fr)             // Ok(-1234), where fr prints U+202F

@@ -9,7 +9,8 @@ ghost use Rattle.num_format_decimal.specs.Parsing.{DecimalResult};
 ghost use Rattle.num_format_parsing.specs.Strict.{ParsesStrictly};
 ghost use Rattle.num_format_parsing.specs.declared.error.StrictError.TheVariants as strict;
 ghost use Rattle.num_format_typed.specs.Typed.{HasSymbols, IsPrinted, IsTypable, TypedResult, body_of, core_of};
-ghost use Rattle.num_format_typed.specs.Typed.{has_minus, is_nonzero_digit, place_in, placed, rewritten, separator_of, sign_of, unsigned};
+ghost use Rattle.num_format_typed.specs.Typed.{has_minus, is_nonzero_digit, place_in, placed, rewritten};
+ghost use Rattle.num_format_typed.specs.Typed.{separator_of, sign_of, unsigned};
 
 use crate::classes::Class;
 use crate::error::TypedError;
