@@ -1,6 +1,7 @@
 """Cases of programs that are computed: texts of each length, what numfmt prints, ledgers, the table of locales, tables
 of examples/, and what README.md shows. Nothing of num_format computes what is expected."""
 import decimal
+import random
 import re
 import shlex
 from decimal import Decimal
@@ -13,8 +14,16 @@ from tally import ROOT
 import lengths
 import locales
 
-# More digits than any sum of a ledger has, so that each is exact.
-decimal.getcontext().prec = 60
+# More digits than any sum of a ledger has, and any number of 128 bits with 38 decimals more, so that each is exact.
+decimal.getcontext().prec = 80
+
+# What each way to round is in Python.
+ROUNDINGS = {
+    "half-even": decimal.ROUND_HALF_EVEN,
+    "half-away-from-zero": decimal.ROUND_HALF_UP,
+    "toward-zero": decimal.ROUND_DOWN,
+    "exact": decimal.ROUND_DOWN,
+}
 
 # The separator, the decimal mark and the minus sign of each locale of the ledgers. The first has those of Python.
 LOCALES = {"en": ",.-", "de": ".,-", "fr": "\u202f,-", "sv": "\u00a0,\u2212"}
@@ -64,6 +73,27 @@ def of_regroup_lines():
     for word in ["--version", "-V"]:
         yield case([word], out=f"regroup-lines {version}\n")
     yield from of_tables()
+    yield from of_decimals()
+
+
+def of_decimals():
+    """Numbers with so many decimals as Python rounds them, or a message where they are not of 128 bits or not exact."""
+    randomly = random.Random(57)
+    numbers = [Decimal(units).scaleb(-scale) for units in (2**127 - 1, -(2**127)) for scale in range(39)]
+    numbers += [Decimal(randomly.randint(-9999, 9999) * 5).scaleb(-randomly.randint(0, 6)) for _ in range(400)]
+    for mode, rounding in ROUNDINGS.items():
+        for places in [0, 1, 2, 3, 19, 37, 38]:
+            out, err = [], []
+            for line, number in enumerate(numbers, 1):
+                rounded = number.quantize(Decimal(1).scaleb(-places), rounding)
+                is_lost = mode == "exact" and rounded != number
+                is_number = not is_lost and -(2**127) <= rounded.scaleb(places) < 2**127
+                out.append(f"{rounded + 0 if is_number else number:f}\n")
+                if not is_number:
+                    cause = "digits would be lost" if is_lost else "out of range"
+                    err.append(f"regroup-lines: -:{line}: '{number:f}': {cause} with --decimals {places}\n")
+            words = ["--decimals", str(places), "--round", mode, "--invalid", "warn", "plain", "plain"]
+            yield case(words, "".join(f"{number:f}\n" for number in numbers), out="".join(out), err="".join(err))
 
 
 def of_tables():

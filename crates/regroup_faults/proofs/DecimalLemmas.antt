@@ -1,12 +1,12 @@
 -- The definition of the decimal for which a text is canonical is what strict parsing returns.
 use Rattle.std.proofs.lemmas.List.{drop_more, length-drop}
 use Rattle.std.proofs.Common.{Decides, IsUtf8, List, None, Option, Some, [], ap, arith, drop, false, inl, inr, length, refl, subst, sym, ℕ}
-use Rattle.std.proofs.Common.{◌+◌, ◌-◌, ◌<◌, ◌^◌, ◌∙◌, ◌≡◌, ◌≢◌, ◌≤◌}
+use Rattle.std.proofs.Common.{Err, Ok, Result, ◌+◌, ◌-◌, ◌<◌, ◌^◌, ◌∙◌, ◌≡◌, ◌≢◌, ◌≤◌}
 use Rattle.std.proofs.lemmas.Bool.Decides.{Decides-and, Decides-like, Decides-ltb, Decides-not, Decides-or}
 use Rattle.std.specs.Prelude.{FitsSigned, MatchOption, negsuc, pos, suc, zero, ℤ, ◌&&◌, ◌||◌}
 use Rattle.num_format_decimal.specs.FixedPoint.{FixedPoint, fixed_point}
 use Rattle.num_format.specs.Format.{FormatData, HasUtf8Texts}
-use Rattle.num_format_decimal.specs.Parsing.{IsDecimalCause, ParsesDecimal, IsCanonicalDecimal, IsNotCanonical, after_mark}
+use Rattle.num_format_decimal.specs.Parsing.{DecimalResult, IsDecimalCause, ParsesDecimal, IsCanonicalDecimal, IsNotCanonical, after_mark}
 use Rattle.num_format_decimal.specs.Parsing.{unexpected_in_decimal}
 use Rattle.num_format_decimal.specs.Parsing.{with_separators, without_separators}
 use Rattle.num_format_decimal.specs.Marks.{IsPlainFormat, MarksDecimals}
@@ -17,6 +17,7 @@ use Rattle.num_format.specs.Reading.{denoted, text_digits}
 use Rattle.num_format.specs.Readable.{fits_i128}
 use Rattle.regroup_faults.specs.Decimals.{has_no_numeral, is_sign}
 use Rattle.std.specs.Int.{w128}
+use Rattle.std.specs.Result.{result_ok}
 use Rattle.regroup_faults.specs.Decimals.{decimal_read, marks_decimals, canonical_value, canonical_below}
 use Rattle.regroup_faults.specs.Messages.{why_in, why_left, why_refused}
 use Rattle.regroup_faults.specs.declared.message.Why.TheVariants as why
@@ -44,7 +45,7 @@ no_numeral-Decides t =
 sign-Decides : (t : List ℕ) → Decides (is_sign t) (¬ (t ≡ []) × HasNoNumeral t)
 sign-Decides t = Decides-and _ _ (Decides-not _ (bytes_eq-Decides t [])) (no_numeral-Decides t)
 
-fits-Decides : (z : ℤ) → Decides (fits_i128 z) (FitsSigned w128 z)
+pub fits-Decides : (z : ℤ) → Decides (fits_i128 z) (FitsSigned w128 z)
 fits-Decides (pos n) = Decides-like _ (λ h. record { sfits = h }) (λ h. h.sfits) (Decides-ltb n (2 ^ 127))
 fits-Decides (negsuc n) = Decides-like _ (λ h. record { sfits = h }) (λ h. h.sfits) (Decides-ltb n (2 ^ 127))
 
@@ -151,6 +152,10 @@ module _ (f : FormatData) (utf8 : HasUtf8Texts f) where
               })))
           | inr not ↦ rw not refl
         ]
+
+    pub decimal_read-is : (r : Result FixedPoint StrictError) → DecimalResult f t r → decimal_read f t ≡ result_ok r
+    decimal_read-is (Ok d) result = decimal_read-parsed d ((result.decimal d).0 refl)
+    decimal_read-is (Err e) result = decimal_read-none (λ d parsed. let is = (result.decimal d).1 parsed in absurd (cc is))
 
     -- the byte that strict parsing does not expect is that of the definition
     left-at : (at : ℕ) → at < length t → why_left f t (drop at t) ≡ why.Unexpected at

@@ -16,7 +16,7 @@ use Rattle.num_format_typed.specs.Typed.{IsTypable, TypedDecimalResult, TypedRes
 use Rattle.num_format_typed.specs.Typed.{typed_text}
 use Rattle.num_format_typed.specs.declared.error.TypedError.{TypedError}
 use Rattle.num_format_typed.specs.declared.error.TypedError.TheVariants.{Number, TooLong}
-use Rattle.regroup_faults.proofs.DecimalLemmas.{decimal_read-none, decimal_read-parsed, marks-Decides, parsed-utf8, plain-marks, why-is}
+use Rattle.regroup_faults.proofs.DecimalLemmas.{decimal_read-is, decimal_read-parsed, marks-Decides, parsed-utf8, plain-marks, why-is}
 use Rattle.regroup_faults.proofs.DecimalLemmas.{why-parsed}
 use Rattle.regroup_faults.specs.Decimals.{decimal_read, typed_read, types_decimals}
 use Rattle.regroup_faults.specs.Messages.{why_in, why_placed, why_refused, why_untyped}
@@ -66,11 +66,6 @@ module _ (f : FormatData) (utf8 : HasUtf8Texts f) where
     typed-utf8 d (TypedResult.too_long taken text long is) = absurd (cc is)
     typed-utf8 d (TypedResult.typed taken text short strict second is) = text
 
-    short-or : (strict : Result FixedPoint StrictError) → DecimalResult f (typed_text f t) strict
-        → decimal_read f (typed_text f t) ≡ result_ok strict
-    short-or (Ok d) second = decimal_read-parsed f utf8 (typed_text f t) d ((second.decimal d).0 refl)
-    short-or (Err e) second = decimal_read-none f utf8 (typed_text f t) (λ d parsed. let is = (second.decimal d).1 parsed in absurd (cc is))
-
     pub typed_read-is : IsUtf8 t → (r : Result FixedPoint (TypedError StrictError)) → TypedDecimalResult f t r
         → typed_read f t ≡ result_ok r
     unfolding typed_read
@@ -82,9 +77,9 @@ module _ (f : FormatData) (utf8 : HasUtf8Texts f) where
         false_from_ne_true _ (λ few. omega (arith, leb-true _ _ few, long)) in
         rw (types-Decides.1 taken, many, is) refl
     typed_read-is text r (TypedResult.typed taken utf8_text short (Ok d) second is) =
-        rw (types-Decides.1 taken, le-leb _ _ short, short-or (Ok d) second, is) refl
+        rw (types-Decides.1 taken, le-leb _ _ short, decimal_read-is f utf8 (typed_text f t) (Ok d) second, is) refl
     typed_read-is text r (TypedResult.typed taken utf8_text short (Err e) second is) =
-        rw (types-Decides.1 taken, le-leb _ _ short, short-or (Err e) second, is) refl
+        rw (types-Decides.1 taken, le-leb _ _ short, decimal_read-is f utf8 (typed_text f t) (Err e) second, is) refl
 
     why-strict : (strict : Result FixedPoint StrictError) → DecimalResult f (typed_text f t) strict
         → (r : Result FixedPoint (TypedError StrictError)) → r ≡ map_error (placed (place_in f t)) strict

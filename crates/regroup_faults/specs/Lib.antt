@@ -4,3 +4,4 @@ pub mod Fault
 pub mod Messages
 pub mod Notation
 pub mod Quoting
+pub mod Reading

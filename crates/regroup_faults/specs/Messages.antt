@@ -1,6 +1,6 @@
 -- The messages that name faults.
 use Rattle.std.specs.Prelude.{ℕ, ◌+◌, ◌-◌, ◌/◌, ◌%◌, nat_le, nat_lt, ◌==◌, Bool, ◌&&◌, not, is_some, if◌then◌else◌}
-use Rattle.std.specs.Prelude.{List, [], ◌∷◌, ◌++◌, length, codes, encode_utf8, Option, None, Some}
+use Rattle.std.specs.Prelude.{List, [], ◌∷◌, ◌++◌, length, codes, encode_utf8, Option, None, Some, Result, Ok, Err}
 use Rattle.num_format_digits.specs.Digits as set
 use Rattle.num_format_digits.specs.Digits.{ascii_of, first_set, other_from}
 use Rattle.num_format_digits.specs.Parsing as digits
@@ -16,6 +16,8 @@ use Rattle.num_format_decimal.specs.Parsing.{after_mark, unexpected_in_decimal}
 use Rattle.num_format_decimal.specs.Text.{decimal_text}
 use Rattle.num_format_decimal.specs.declared.buffer.TheConstants.{MAX_DECIMAL_LEN}
 use Rattle.num_format_decimal.specs.declared.decimal.TheConstants.{MAX_SCALE}
+use Rattle.num_format_decimal.specs.declared.error.DecimalError.{DecimalError}
+use Rattle.num_format_decimal.specs.declared.error.DecimalError.TheVariants.{DigitsLost, OutOfRange, ScaleTooLarge}
 use Rattle.num_format_parsing.specs.declared.error.StrictError.{StrictError}
 use Rattle.num_format_parsing.specs.declared.error.StrictError.TheVariants as strict
 use Rattle.num_format_typed.specs.Typed.{place_in, typed_text}
@@ -26,8 +28,11 @@ use Rattle.regroup_faults.specs.Fault.{Fault, line_of}
 use Rattle.regroup_faults.specs.Fault.Fault.{TooMany, TooLong, FewFields, Read, NotText, FieldNotText, Line, Field, Unclosed, Write, Report}
 use Rattle.regroup_faults.specs.Fault.Fault.{Reject, Flush}
 use Rattle.regroup_faults.specs.declared.fault.FieldCount.{FieldCount}
+use Rattle.regroup_faults.specs.Reading.{parsed_by, scaled}
+use Rattle.regroup_faults.specs.declared.Parsing.{Parsing}
+use Rattle.regroup_faults.specs.declared.Parsing.TheVariants.{Lenient, Strict, Typed}
 use Rattle.regroup_faults.specs.declared.Reading.{Reading}
-use Rattle.regroup_faults.specs.declared.Reading.TheVariants.{Lenient, Strict, Typed}
+use Rattle.regroup_faults.specs.declared.scale.Scale.{Scale}
 use Rattle.regroup_faults.specs.declared.message.Why.{Why}
 use Rattle.regroup_faults.specs.declared.message.Why.TheVariants as why
 
@@ -101,11 +106,26 @@ why_untyped from text =
     if nat_lt MAX_DECIMAL_LEN (length (typed_text from text)) then why.TooLong else
     why_placed (place_in from text) (λ c. c) (why_refused from (typed_text from text))
 
+-- why a text with 0 to 9 does not parse
+abbrev pub why_unparsed : Parsing → FormatData → List ℕ → Why
+why_unparsed Strict from text = why_strict from text (why_refused from text)
+why_unparsed Typed from text = why_untyped from text
+why_unparsed Lenient from text = why.Unknown
+
+-- why there is no decimal at a scale, by it or its error
+abbrev pub why_scaled : Scale → Result FixedPoint DecimalError → Why
+why_scaled scale (Ok d) = why.Unknown
+why_scaled scale (Err error) = why.NotScaled scale.decimals error
+
+-- why a text is not read, by the decimal that it is, if it is one, and the scale that is asked for
+abbrev pub why_unread : Option Scale → Option FixedPoint → Why → Why
+why_unread (Some scale) (Some d) unparsed = why_scaled scale (scaled scale d)
+why_unread _ _ unparsed = unparsed
+
 -- why a text with 0 to 9 is refused, by how it is read
 abbrev pub why_read : Reading → FormatData → List ℕ → Why
-why_read Strict from text = why_strict from text (why_refused from text)
-why_read Typed from text = why_untyped from text
-why_read Lenient from text = why.Unknown
+why_read reading from text =
+    why_unread reading.scale (parsed_by reading.parsing from text) (why_unparsed reading.parsing from text)
 
 -- the character after so many bytes
 abbrev pub char_after : (before : ℕ) → (characters : List ℕ) → ℕ
@@ -150,6 +170,12 @@ abbrev pub other_text : (before met : ℕ) → List ℕ
 other_text before met =
     codes ": not a number at byte " ++ (decimal (before + 1) ++ (codes ": " ++ (code_point met ++ codes " is no digit of FROM")))
 
+-- what is said of a number that has no such scale
+abbrev pub lost_text : DecimalError → List ℕ
+lost_text ScaleTooLarge = codes ": more than 38 decimals"
+lost_text DigitsLost = codes ": digits would be lost"
+lost_text OutOfRange = codes ": out of range"
+
 -- what is said of a text that is not a number: a place counts from 1
 abbrev pub why_text : Why → List ℕ
 why_text why.Unknown = codes ": not a number"
@@ -158,6 +184,7 @@ why_text why.Misspelled = codes ": not as it is printed"
 why_text why.TooLong = codes ": longer than any number"
 why_text (why.OtherNumeral before met) = other_text before met
 why_text (why.Typed before met wanted) = met_text (decimal (before + 1)) (code_point met) (code_point wanted)
+why_text (why.NotScaled decimals error) = lost_text error ++ (codes " with --decimals " ++ decimal decimals)
 
 -- what is shown of a name: the first 256 bytes
 abbrev pub shown_name : List ℕ → List ℕ

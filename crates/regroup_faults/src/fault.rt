@@ -28,9 +28,10 @@ pub enum RegroupFault {
     NotText(u64),
     /// In the line of the first number, the field of the second number is not UTF-8.
     FieldNotText(u64, u64),
-    /// The line of this number does not parse.
+    /// The line of this number does not parse, or its number is none at the scale.
     Line(u64, Error),
-    /// In the line of the first number, the field of the second number does not parse.
+    /// In the line of the first number, the field of the second number does not parse, or its number is none at the
+    /// scale.
     Field(u64, u64, Error),
     /// In the record that begins in the line of this number, a quote is not closed.
     Unclosed(u64),

@@ -9,21 +9,23 @@ ghost use Rattle.regroup_faults.specs.Quoting.{hex_digit};
 ghost use Rattle.regroup_faults.specs.Messages.{cause, char_after, code_point, displayed, fault_message, few_text};
 ghost use Rattle.regroup_faults.specs.Messages.{field_cause, other_text, why_in_digits, why_placed, why_read};
 ghost use Rattle.regroup_faults.specs.Messages.{first_change, header_hint, high_digits, hint, is_word, kept_in};
-ghost use Rattle.regroup_faults.specs.Messages.{line_message, low_digits, met_text, refused_in, refused_text};
+ghost use Rattle.regroup_faults.specs.Messages.{line_message, lost_text, low_digits, met_text, refused_in};
 ghost use Rattle.regroup_faults.specs.Messages.{why_changed, why_in, why_meant, why_not, why_refused, why_strict};
-ghost use Rattle.regroup_faults.specs.Messages.{why_text, why_untyped};
+ghost use Rattle.regroup_faults.specs.Messages.{refused_text, why_scaled, why_text, why_unparsed, why_untyped};
+ghost use Rattle.regroup_faults.specs.Reading.{parsed_by, scaled};
 ghost use Rattle.num_format_digits.specs.Digits.{shown};
 ghost use Rattle.num_format_digits.specs.Parsing.{place_in};
 
-use crate::Reading;
 use crate::fault::{FieldCount, RegroupFault};
 use crate::notation::Notation;
 use crate::quoting::{MAX_QUOTED_LEN, hex_digit, quoted, shown};
+use crate::scale::Scale;
+use crate::{Parsing, Reading};
 use arrayvec::ArrayString;
 use num_format::laws::format_data;
-use num_format::parsing::StrictError;
+use num_format::parsing::{FromFormattedStr, StrictError};
 use num_format::{Error, ErrorKind, Format};
-use num_format_decimal::{Decimal, DecimalBuffer, MAX_DECIMAL_LEN};
+use num_format_decimal::{Decimal, DecimalBuffer, DecimalError, MAX_DECIMAL_LEN};
 use num_format_digits::{Digits, DigitsError};
 use num_format_typed::rewriting::{bytes_within, split_first};
 use num_format_typed::{TypedError, parse_typed_decimal};
@@ -78,6 +80,8 @@ pub(crate) enum Why {
     /// So many bytes are before an unexpected one, where a person typed the first character for the second, which the
     /// format has.
     Typed(usize, char, char),
+    /// It is a number, but none with so many decimals, by this error.
+    NotScaled(u8, DecimalError),
 }
 
 /// A text of these parts, one after the other, which fit.
@@ -96,7 +100,8 @@ macro_rules! joined {
 /// ```rust
 /// let fault = RegroupFault::TooLong(7, 4096);
 /// let from = Notation::latin(&Locale::en);
-/// fault_message("x.tsv", Reading::Strict, &fault, &from)    // "regroup-lines: x.tsv:7: more than 4096 bytes\n"
+/// let reading = Reading { parsing: Parsing::Strict, scale: None };
+/// fault_message("x.tsv", reading, &fault, &from)    // "regroup-lines: x.tsv:7: more than 4096 bytes\n"
 /// ```
 pub fn fault_message<F: Format>(
     name: &str,
@@ -265,6 +270,23 @@ fn why_text(why: Why) -> ArrayString<MAX_WHY_LEN>
             code_point(met).as_str(),
             code_point(wanted).as_str(),
         ),
+        Why::NotScaled(decimals, error) => joined!(
+            lost_text(error),
+            " with --decimals ",
+            itoa::Buffer::new().format(decimals)
+        ),
+    }
+}
+
+/// Returns what is said of a number that has no such scale.
+fn lost_text(error: DecimalError) -> &'static str
+    ensures text { result.now ≡ lost_text error }
+    ensures len { length result.now ≤ MAX_HINT_LEN }
+{
+    match error {
+        DecimalError::ScaleTooLarge => ": more than 38 decimals",
+        DecimalError::DigitsLost => ": digits would be lost",
+        DecimalError::OutOfRange => ": out of range",
     }
 }
 
@@ -424,14 +446,52 @@ fn shown_in(digits: Digits, c: char) -> char
     char::from_u32(digits.zero() as u32 + (c as u32 - '0' as u32)).unwrap_or(c)
 }
 
-/// Returns why a text is not a number in the digits `0` to `9`. Nothing is known of one that is read leniently.
+/// Returns why a text in the digits `0` to `9` is not a number, or none at the scale.
 fn why_read<F: Format>(reading: Reading, text: &str, from: &F) -> Why
     ensures { result ≡ why_read reading (F.answers from.now) text.now }
 {
-    match reading {
-        Reading::Lenient => Why::Unknown,
-        Reading::Strict => why_strict(text, from),
-        Reading::Typed => why_untyped(text, from),
+    let Some(scale) = reading.scale else {
+        return why_unparsed(reading.parsing, text, from);
+    };
+    match parsed(reading.parsing, text, from) {
+        Some(number) => why_scaled(scale, number),
+        None => why_unparsed(reading.parsing, text, from),
+    }
+}
+
+/// Returns the number that a text in the digits `0` to `9` is, if it is one.
+fn parsed<F: Format>(parsing: Parsing, text: &str, from: &F) -> Option<Decimal>
+    ensures { result ≡ parsed_by parsing (F.answers from.now) text.now }
+{
+    format_data(from);
+    match parsing {
+        Parsing::Strict => Decimal::from_strict_str(text, from).ok(),
+        Parsing::Typed => parse_typed_decimal(text, from).ok(),
+        Parsing::Lenient => match i128::from_formatted_str(text, from) {
+            Ok(value) => Some(Decimal::from(value)),
+            Err(_) => None,
+        },
+    }
+}
+
+/// Returns why a number is none at the scale.
+fn why_scaled(scale: Scale, number: Decimal) -> Why
+    ensures { result ≡ why_scaled scale (scaled scale number) }
+{
+    match scale.apply(number) {
+        Ok(_) => Why::Unknown,
+        Err(error) => Why::NotScaled(scale.decimals, error),
+    }
+}
+
+/// Returns why a text in the digits `0` to `9` does not parse. Nothing is known of one that is parsed leniently.
+fn why_unparsed<F: Format>(parsing: Parsing, text: &str, from: &F) -> Why
+    ensures { result ≡ why_unparsed parsing (F.answers from.now) text.now }
+{
+    match parsing {
+        Parsing::Lenient => Why::Unknown,
+        Parsing::Strict => why_strict(text, from),
+        Parsing::Typed => why_untyped(text, from),
     }
 }
 

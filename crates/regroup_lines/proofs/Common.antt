@@ -77,7 +77,6 @@ pub use Rattle.regroup_lines.specs.Lines.{
   place_written,
   quotes_in,
   quotes_of,
-  read_by,
   record_sent,
   records_of,
   regrouped,
@@ -90,7 +89,6 @@ pub use Rattle.regroup_lines.specs.Lines.{
   stop_returned,
   text_sent,
   unmarked_written,
-  whole_read,
   with_first,
 }
 pub use Rattle.regroup_lines.specs.Lines.Stop.{Ended, Endless, Failed, Unflushed, Unread}
@@ -109,7 +107,7 @@ pub use Rattle.regroup_lines.specs.declared.line_fault.LineFault.{LineFault}
 pub use Rattle.regroup_lines.specs.declared.records.Within.{Within}
 pub use Rattle.regroup_lines.specs.declared.records.Within.TheVariants.{Start}
 pub use Rattle.regroup_faults.specs.declared.Reading.{Reading}
-pub use Rattle.regroup_faults.specs.declared.Reading.TheVariants.{Lenient, Strict, Typed}
+pub use Rattle.regroup_faults.specs.Reading.{at_scale, read_by, whole_read}
 pub use Rattle.regroup_lines.specs.declared.rules.Rules.{Rules}
 pub use Rattle.num_format.specs.Readable.{fits_i128, number_read}
 pub use Rattle.num_format.specs.Reading.{Refused, denoted, text_digits}

@@ -4,16 +4,18 @@ use Rattle.regroup_lines.proofs.Common.{Err, fixed_point, FixedPoint, FormatData
 use Rattle.regroup_lines.proofs.Common.{List, Ok, Option, ParsesDecimal, Refused, Some, ap, cases_Bool, decimal_read}
 use Rattle.regroup_lines.proofs.Common.{decimal_written, denoted, false, false_from_ne_true, if◌then◌else◌, inl, inr, is_utf8}
 use Rattle.regroup_lines.proofs.Common.{is_utf8-from_IsUtf8, number_text, refl, text_fault, None, typed_read}
-use Rattle.regroup_lines.proofs.Common.{whole_read, ℕ, ℤ, ◌∙◌, ◌≡◌}
+use Rattle.regroup_lines.proofs.Common.{at_scale, whole_read, ℕ, ℤ, ◌∙◌, ◌≡◌}
 use Rattle.num_format.specs.Kind.{signed}
 use Rattle.num_format.specs.ParseBytesError.{ParseBytesError}
 use Rattle.num_format.specs.ParseBytesError.TheVariants.{NotANumber, NotUtf8}
 use Rattle.num_format.proofs.ReadableLemmas.{readable-from_accepted, unreadable-from_refused}
 use Rattle.num_format_typed.specs.Typed.{TypedDecimalResult}
 use Rattle.num_format_typed.specs.declared.error.TypedError.{TypedError}
-use Rattle.regroup_faults.proofs.DecimalLemmas.{decimal_read-none, decimal_read-parsed, parsed-utf8}
+use Rattle.regroup_faults.proofs.DecimalLemmas.{decimal_read-is, decimal_read-none, decimal_read-parsed, parsed-utf8}
 use Rattle.regroup_faults.proofs.TypedLemmas.{typed-utf8, typed_read-is}
+use Rattle.std.specs.Option.{option_and_then}
 use Rattle.std.specs.Result.{result_ok}
+use Rattle.regroup_faults.specs.declared.scale.Scale.{Scale}
 
 -- what is read of a text that is UTF-8
 abbrev of_utf8 : List ℕ → Option FixedPoint → Option FixedPoint
@@ -21,6 +23,18 @@ of_utf8 text decimal = if is_utf8 text then decimal else None
 
 none-of_utf8 : (text : List ℕ) → None ≡ of_utf8 text None
 none-of_utf8 text = elim (cases_Bool (is_utf8 text)) [ inl is ↦ rw is refl | inr other ↦ rw other refl ]
+
+-- the same at a scale
+pub scaled-utf8 : (scale : Option Scale) (text : List ℕ) (read parsed : Option FixedPoint) → read ≡ of_utf8 text parsed
+    → option_and_then (at_scale scale) read ≡ of_utf8 text (option_and_then (at_scale scale) parsed)
+scaled-utf8 scale text read parsed is = elim (cases_Bool (is_utf8 text)) [
+  | inl valid ↦ (let same : read ≡ parsed = is ∙ rw valid refl in rw (valid, same) refl)
+  | inr other ↦ (let none : read ≡ None = is ∙ rw other refl in rw (other, none) refl)
+]
+
+pub unscaled : (read : Option FixedPoint) → read ≡ option_and_then (at_scale None) read
+unscaled None = refl
+unscaled (Some d) = refl
 
 -- what is written of it
 module _ (to : NotationData) (number : ℕ) (text : List ℕ) (decimal : Option FixedPoint) where
@@ -45,7 +59,7 @@ module _ (from : FormatData) (text : List ℕ) where
   strict-read utf8 (Ok d) result =
       let parsed = (result.decimal d).0 refl in
       rw (is_utf8-from_IsUtf8 text (parsed-utf8 from utf8 text d parsed), decimal_read-parsed from utf8 text d parsed) refl
-  strict-read utf8 (Err e) result = strict-refused utf8 (λ d parsed. let is = (result.decimal d).1 parsed in absurd (cc is))
+  strict-read utf8 (Err e) result = rw (decimal_read-is from utf8 text (Err e) result) (none-of_utf8 text)
 
   -- as a person types it
   pub typed-read : HasUtf8Texts from → (r : Result FixedPoint (TypedError StrictError)) → TypedDecimalResult from text r

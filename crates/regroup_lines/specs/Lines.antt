@@ -3,17 +3,14 @@ use Rattle.std.specs.Prelude.{ℕ, ◌+◌, ◌==◌, nat_eq, nat_le, nat_lt, Bo
 use Rattle.std.specs.Prelude.{List, [], ◌∷◌, ◌++◌, length, map, take, drop, slice_range, Option, None, Some, Result, Ok, Err}
 use Rattle.std.specs.List.{join_with_byte, list_any, starts_with}
 use Rattle.std.specs.Option.{ok_or, option_map}
-use Rattle.std.specs.Result.{result_map_both, result_ok}
+use Rattle.std.specs.Result.{result_map_both}
 use Rattle.std.specs.Str.{is_utf8}
 use Rattle.num_format.specs.Cut.{cut_text}
 use Rattle.regroup_faults.specs.Notation.{NotationData, decimal_in, number_text}
 use Rattle.num_format.specs.Refusal.{ParseNumber}
-use Rattle.num_format.specs.Format.{FormatData}
-use Rattle.num_format_decimal.specs.FixedPoint.{FixedPoint, fixed_point}
-use Rattle.num_format.specs.Readable.{number_read}
+use Rattle.num_format_decimal.specs.FixedPoint.{FixedPoint}
 use Rattle.regroup_lines.specs.Ended.{ended_by, ended_once}
 use Rattle.regroup_lines.specs.Csv.{field_with, is_barred, number_place, output_delimiter}
-use Rattle.regroup_faults.specs.Decimals.{decimal_read, typed_read}
 use Rattle.regroup_faults.specs.Fault.{Fault, in_field}
 use Rattle.regroup_faults.specs.Fault.Fault.{TooMany, TooLong, FewFields, Flush, Read, NotText, Line, Unclosed}
 use Rattle.regroup_lines.specs.LineFaults.{text_fault}
@@ -25,7 +22,8 @@ use Rattle.regroup_lines.specs.declared.rules.Fields.{Fields}
 use Rattle.regroup_lines.specs.declared.rules.Invalid.{Invalid}
 use Rattle.regroup_lines.specs.declared.rules.Invalid.TheVariants.{Abort, Fail, Warn, Ignore}
 use Rattle.regroup_faults.specs.declared.Reading.{Reading}
-use Rattle.regroup_faults.specs.declared.Reading.TheVariants.{Lenient, Strict, Typed}
+use Rattle.regroup_faults.specs.declared.Parsing.TheVariants.{Lenient}
+use Rattle.regroup_faults.specs.Reading.{read_by}
 use Rattle.regroup_lines.specs.declared.rules.Rules.{Rules}
 use Rattle.regroup_lines.specs.declared.rules.Span.{Span}
 use Rattle.regroup_lines.specs.declared.rules.Span.TheVariants as span
@@ -74,16 +72,6 @@ sending sent rest = record { sent = joined sent rest.sent; returned = rest.retur
 abbrev pub sending_line : Result Sent Fault → Regrouped → Regrouped
 sending_line (Ok sent) rest = sending sent rest
 sending_line (Err fault) rest = returning (Some (Err fault))
-
--- the whole number that is read leniently of a text
-abbrev pub whole_read : FormatData → List ℕ → Option FixedPoint
-whole_read format text = option_map (λ n. fixed_point n 0) (result_ok (number_read format text))
-
--- the decimal that is read of a text with 0 to 9
-abbrev pub read_by : Reading → FormatData → List ℕ → Option FixedPoint
-read_by Lenient = whole_read
-read_by Strict = decimal_read
-read_by Typed = typed_read
 
 -- the text of a decimal, or the fault of the text that has none
 abbrev pub decimal_written : Option FixedPoint → NotationData → ℕ → List ℕ → Result (List ℕ) Fault
@@ -256,7 +244,7 @@ text_sent rules from to number text = body_sent rules text (body_written rules f
 abbrev pub lenient : Rules
 lenient = record {
   span = span.Line;
-  reading = Lenient;
+  reading = record { parsing = Lenient; scale = None };
   header_lines = 0;
   passes_empty = false;
   invalid = Abort;

@@ -59,7 +59,7 @@ use crate::sending::{send_number, send_whole};
 use num_format::Format;
 use num_format::to_formatted_string::write_whole;
 use regroup_faults::fault_message;
-pub use regroup_faults::{FieldCount, Notation, Reading, RegroupFault};
+pub use regroup_faults::{FieldCount, Notation, Parsing, Reading, RegroupFault, Rounding, Scale};
 use std::alloc::Global;
 use std::io;
 use std::io::{Read, Write};
@@ -74,7 +74,10 @@ pub const MAX_LINES: u64 = 1_000_000;
 /// The rules of [`regroup_lines`].
 const LENIENT: Rules = Rules {
     span: Span::Line,
-    reading: Reading::Lenient,
+    reading: Reading {
+        parsing: Parsing::Lenient,
+        scale: None,
+    },
     header_lines: 0,
     passes_empty: false,
     invalid: Invalid::Abort,
@@ -156,7 +159,7 @@ pub fn regroup_lines<R: Read, W: Write, F: Format, G: Format>(
 /// ```rust
 /// let rules = Rules {
 ///     span: Span::Line,
-///     reading: Reading::Strict,
+///     reading: Reading { parsing: Parsing::Strict, scale: None },
 ///     header_lines: 1,
 ///     passes_empty: false,
 ///     invalid: Invalid::Warn,

@@ -1,11 +1,13 @@
 //! Numbers as decimals.
-ghost use Rattle.std.specs.Prelude.{◌≡◌, None, if◌then◌else◌};
+ghost use Rattle.std.specs.Prelude.{◌≡◌, None, Some, if◌then◌else◌};
+ghost use Rattle.std.specs.Option.{option_and_then};
 ghost use Rattle.std.specs.Result.{result_map_both};
 ghost use Rattle.std.specs.Str.{is_utf8};
 ghost use Rattle.num_format_typed.specs.Typed.{TypedDecimalResult};
 ghost use Rattle.regroup_faults.specs.Notation.{NotationData, decimal_in, number_text};
+ghost use Rattle.regroup_faults.specs.Reading.{at_scale, parsed_by, read_by};
 ghost use Rattle.regroup_lines.specs.LineFaults.{line_fault_of};
-ghost use Rattle.regroup_lines.specs.Lines.{number_written, read_by};
+ghost use Rattle.regroup_lines.specs.Lines.{number_written};
 
 use crate::line_fault::LineFault;
 use num_format::Format;
@@ -14,7 +16,7 @@ use num_format::parsing::{FromFormattedStr, StrictError};
 use num_format_decimal::{Decimal, DecimalParser, MAX_DECIMAL_LEN};
 use num_format_digits::Digits;
 use num_format_typed::{TypedError, TypedParser};
-use regroup_faults::{Notation, Reading};
+use regroup_faults::{Notation, Parsing, Reading, Scale};
 use std::marker::Model;
 use std::str;
 
@@ -76,7 +78,7 @@ impl<'a, F: Format> Parser<'a, F> {
         }
     }
 
-    /// Returns the number that a text in the line of this number is, or the fault of a text that does not parse.
+    /// Returns the number that is read of a text in the line of this number, or the fault of a text that is none.
     #[inline(always)]
     pub(crate) fn read<'t>(
         &self,
@@ -135,11 +137,34 @@ impl<'a, F: Format> Parser<'a, F> {
     fn read_ascii(&self, reading: Reading, text: &[u8]) -> Option<Decimal>
         ensures { result ≡ (if is_utf8 text.now then read_by reading self.now.format text.now else None) }
     {
-        match (reading, &self.decimals) {
-            (Reading::Strict, Some(parser)) => parser.parse_bytes(text).ok(),
-            (Reading::Strict, None) => None,
-            (Reading::Typed, _) => self.read_typed(text).ok(),
-            (Reading::Lenient, _) => match i128::from_formatted_bytes(text, self.format) {
+        match reading.scale {
+            None => self.parse_ascii(reading.parsing, text),
+            Some(scale) => self.read_scaled(scale, reading.parsing, text),
+        }
+    }
+
+    /// Does the same at a scale. It is a call, so that other numbers are read without its code.
+    #[inline(never)]
+    fn read_scaled(&self, scale: Scale, parsing: Parsing, text: &[u8]) -> Option<Decimal>
+        ensures { result ≡ (if is_utf8 text.now
+            then option_and_then (at_scale (Some scale)) (parsed_by parsing self.now.format text.now) else None) }
+    {
+        match self.parse_ascii(parsing, text) {
+            Some(number) => scale.apply(number).ok(),
+            None => None,
+        }
+    }
+
+    /// Returns the decimal that is parsed of a text with the digits `0` to `9`.
+    #[inline(always)]
+    fn parse_ascii(&self, parsing: Parsing, text: &[u8]) -> Option<Decimal>
+        ensures { result ≡ (if is_utf8 text.now then parsed_by parsing self.now.format text.now else None) }
+    {
+        match (parsing, &self.decimals) {
+            (Parsing::Strict, Some(parser)) => parser.parse_bytes(text).ok(),
+            (Parsing::Strict, None) => None,
+            (Parsing::Typed, _) => self.parse_typed(text).ok(),
+            (Parsing::Lenient, _) => match i128::from_formatted_bytes(text, self.format) {
                 Ok(value) => Some(Decimal::from(value)),
                 Err(_) => None,
             },
@@ -147,7 +172,7 @@ impl<'a, F: Format> Parser<'a, F> {
     }
 
     /// Returns the decimal that a person means by a text.
-    fn read_typed(&self, text: &[u8]) -> Result<Decimal, TypedError<StrictError>>
+    fn parse_typed(&self, text: &[u8]) -> Result<Decimal, TypedError<StrictError>>
         ensures { TypedDecimalResult self.now.format text.now result }
     {
         match &self.typed {

@@ -6,6 +6,9 @@ use std::alloc::{AllocError, Global};
 /// The version of the project, which the file VERSION has too.
 const VERSION: &str = "0.1.0";
 
+/// The values of `--round`.
+const ROUNDINGS: [&str; 4] = ["half-even", "half-away-from-zero", "toward-zero", "exact"];
+
 /// What `--help` says after the options.
 const AFTER_HELP: &str = "\
 FROM and TO are each plain, as in -1234.5, a locale, as en-US, de_DE.UTF-8 or C, or with its digits ar-EG-u-nu-arab,
@@ -151,6 +154,7 @@ fn with_output_options<'a>(alloc: Global, command: Command<'a>) -> Result<Comman
 
 /// Returns the command line with its options about lines that are no numbers.
 fn with_fault_options<'a>(alloc: Global, command: Command<'a>) -> Result<Command<'a>, AllocError> {
+    let command = with_decimals(alloc, command)?;
     command
         .arg(
             Arg::new(alloc, "invalid")
@@ -183,4 +187,24 @@ fn with_fault_options<'a>(alloc: Global, command: Command<'a>) -> Result<Command
             "Read numbers as people type them: a keyboard's space, apostrophe and hyphen stand for those of FROM",
         )?
         .conflicts_with("lenient")?)
+}
+
+/// Returns the command line with its options about how many decimals numbers have.
+fn with_decimals<'a>(alloc: Global, command: Command<'a>) -> Result<Command<'a>, AllocError> {
+    command
+        .arg(
+            Arg::new(alloc, "decimals")
+                .long("decimals")
+                .value_name("N")
+                .value_parser(value_parser!(u8).range(0..=38))
+                .help("Write each number with N decimals, 0 to 38, and not with as many as it has"),
+        )?
+        .arg(
+            Arg::new(alloc, "round")
+                .long("round")
+                .value_name("MODE")
+                .value_parser(ROUNDINGS.as_slice())
+                .requires_arg("decimals")?
+                .help("What to do with a number that has more decimals [default: half-even]"),
+        )
 }

@@ -101,8 +101,8 @@ fn regroup_files(
 ) -> io::Result<u8> {
     let words = words_of(matches);
     let (from, to) = (Word::read(rt, words[0]), Word::read(rt, words[1]));
-    let (reading, span) = (rules.reading, &rules.span);
-    let formats = match formats_for(rt.alloc(), reading, span, from.source(), to.source()) {
+    let (parsing, span) = (rules.reading.parsing, &rules.span);
+    let formats = match formats_for(rt.alloc(), parsing, span, from.source(), to.source()) {
         Ok(formats) => formats,
         Err(misuse) => return Ok(misuse.send(&mut rt.stderr())),
     };

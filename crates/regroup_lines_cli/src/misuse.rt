@@ -46,6 +46,8 @@ fn cause_in(alloc: Global, kind: ErrorKind, text: &str) -> Result<String, AllocE
                 "missing operand"
             } else if missing.contains("--csv") {
                 "option '--quote' requires '--csv'"
+            } else if missing.contains("--decimals") {
+                "option '--round' requires '--decimals'"
             } else if text.contains("--csv") {
                 "option '--csv' requires '--field'"
             } else if text.contains("--output-delimiter") {

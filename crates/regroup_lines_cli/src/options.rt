@@ -1,7 +1,9 @@
 //! What the options and words of the command line ask for.
 
 use clap::ArgMatches;
-use regroup_stream::{FieldList, Invalid, Options, Quoting, Reading, field_list};
+use regroup_stream::{
+    FieldList, Invalid, Options, Parsing, Quoting, Reading, Rounding, Scale, field_list,
+};
 use std::alloc::{AllocError, Global};
 
 /// Returns the fields that are chosen: none without `--field`. Returns `None` if its value is no list.
@@ -27,11 +29,6 @@ pub(crate) fn options_of<'a, 'w>(
     matches: &ArgMatches<'w>,
     list: &'a FieldList<'_>,
 ) -> Options<'a, 'w> {
-    let reading = match (matches.get_flag("lenient"), matches.get_flag("typed")) {
-        (true, _) => Reading::Lenient,
-        (_, true) => Reading::Typed,
-        _ => Reading::Strict,
-    };
     let header_lines = if matches.get_flag("header") {
         1
     } else {
@@ -49,12 +46,39 @@ pub(crate) fn options_of<'a, 'w>(
         output_delimiter: matches.get_str("output-delimiter"),
         quoting,
         only: matches.get_flag("only"),
-        reading,
+        reading: reading_of(matches),
         header_lines,
         passes_empty: matches.get_flag("empty"),
         invalid: invalid_of(matches),
         rejects: matches.get_str("rejects").is_some(),
         zero_terminated: matches.get_flag("zero-terminated"),
+    }
+}
+
+/// Returns how numbers are read.
+fn reading_of(matches: &ArgMatches<'_>) -> Reading {
+    let parsing = match (matches.get_flag("lenient"), matches.get_flag("typed")) {
+        (true, _) => Parsing::Lenient,
+        (_, true) => Parsing::Typed,
+        _ => Parsing::Strict,
+    };
+    let scale = match matches.get_one::<u8>("decimals") {
+        Some(decimals) => Some(Scale {
+            decimals,
+            rounding: rounding_of(matches),
+        }),
+        None => None,
+    };
+    Reading { parsing, scale }
+}
+
+/// Returns what becomes of a number with more decimals than are written.
+fn rounding_of(matches: &ArgMatches<'_>) -> Rounding {
+    match matches.get_str("round") {
+        Some("half-away-from-zero") => Rounding::HalfAwayFromZero,
+        Some("toward-zero") => Rounding::TowardZero,
+        Some("exact") => Rounding::Exact,
+        _ => Rounding::HalfEven,
     }
 }
 

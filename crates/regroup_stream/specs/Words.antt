@@ -19,9 +19,9 @@ use Rattle.num_format_digits.specs.Digits.{in_digits}
 use Rattle.num_format_digits.specs.Tags.{TagResult, digits_in}
 use Rattle.num_format_digits.specs.declared.tags.UnknownDigits.{UnknownDigits}
 use Rattle.regroup_faults.specs.Notation.{NotationData, latin}
-use Rattle.regroup_faults.specs.declared.Reading.{Reading}
+use Rattle.regroup_faults.specs.declared.Parsing.{Parsing}
 use Rattle.num_format_typed.specs.Typed.{IsTypable}
-use Rattle.regroup_faults.specs.declared.Reading.TheVariants.{Lenient, Strict, Typed}
+use Rattle.regroup_faults.specs.declared.Parsing.TheVariants.{Lenient, Strict, Typed}
 use Rattle.num_format.specs.Building.{built, choices_of, chosen, custom_format}
 use Rattle.num_format.specs.Constants.{MAX_DEC_LEN, MAX_MIN_LEN, MAX_SEP_LEN}
 use Rattle.num_format.specs.English.{english}
@@ -143,7 +143,7 @@ abbrev pub IsNamed : List ℕ → Result NotationData Wrong → Type 0
 IsNamed word named = NamesPlainOrOther (bytes_eq word (codes "plain")) word named
 
 -- numbers are read under the format: strictly only where each decimal parses back from its text, and typed where that has one meaning
-abbrev pub IsReadUnder : Reading → FormatData → Type 0
+abbrev pub IsReadUnder : Parsing → FormatData → Type 0
 IsReadUnder Strict format = MarksDecimals format
 IsReadUnder Typed format = MarksDecimals format × IsTypable format
 IsReadUnder Lenient format = ⊤
@@ -161,7 +161,7 @@ abbrev pub IsUnmarked : FormatData → Ambiguity → Type 0
 IsUnmarked format why = ¬ (MarksDecimals format) × (why ≡ ambiguity_of format)
 
 -- numbers are not read so under the format for this reason
-abbrev pub IsUnread : Reading → FormatData → Ambiguity → Type 0
+abbrev pub IsUnread : Parsing → FormatData → Ambiguity → Type 0
 IsUnread Strict format = IsUnmarked format
 IsUnread Typed format = λ why. IsUnmarked format why ⊎ (MarksDecimals format × ¬ (IsTypable format) × (why ≡ TypedAlike))
 IsUnread Lenient format = λ why. ⊥
@@ -188,27 +188,27 @@ IsFormatOf (Word word) result = IsNamed word result
 IsFormatOf (File name bytes) result = IsHeld name bytes result
 
 -- what is wrong with two of them: the first has no format, or one that is not read; or else the second has none, or one that is ambiguous
-pub data IsWrong (reading : Reading) (from to : Named) : Wrong → Type 0 where
-  first : (wrong : Wrong) → IsFormatOf from (Err wrong) → IsWrong reading from to wrong
-  unread : (source : NotationData) (why : Ambiguity) → IsFormatOf from (Ok source) → IsUnread reading source.format why
-      → IsWrong reading from to (Ambiguous (text_of_named from) why)
-  second : (source : NotationData) (wrong : Wrong) → IsFormatOf from (Ok source) → IsReadUnder reading source.format
-      → IsFormatOf to (Err wrong) → IsWrong reading from to wrong
-  unwritten : (source target : NotationData) → IsFormatOf from (Ok source) → IsReadUnder reading source.format
+pub data IsWrong (parsing : Parsing) (from to : Named) : Wrong → Type 0 where
+  first : (wrong : Wrong) → IsFormatOf from (Err wrong) → IsWrong parsing from to wrong
+  unread : (source : NotationData) (why : Ambiguity) → IsFormatOf from (Ok source) → IsUnread parsing source.format why
+      → IsWrong parsing from to (Ambiguous (text_of_named from) why)
+  second : (source : NotationData) (wrong : Wrong) → IsFormatOf from (Ok source) → IsReadUnder parsing source.format
+      → IsFormatOf to (Err wrong) → IsWrong parsing from to wrong
+  unwritten : (source target : NotationData) → IsFormatOf from (Ok source) → IsReadUnder parsing source.format
       → IsFormatOf to (Ok target) → ¬ MarksDecimals target.format →
-      IsWrong reading from to (Ambiguous (text_of_named to) (ambiguity_of target.format))
+      IsWrong parsing from to (Ambiguous (text_of_named to) (ambiguity_of target.format))
 
 -- the two have these formats, the first is read, and the second is not ambiguous
-pub record NamesBoth (reading : Reading) (from to : Named) (formats : NotationData × NotationData) : Type 0 where
+pub record NamesBoth (parsing : Parsing) (from to : Named) (formats : NotationData × NotationData) : Type 0 where
   pub first : IsFormatOf from (Ok formats.0)
-  pub read : IsReadUnder reading formats.0.format
+  pub read : IsReadUnder parsing formats.0.format
   pub second : IsFormatOf to (Ok formats.1)
   pub written : MarksDecimals formats.1.format
 
 -- the formats of two of them, or what is wrong
-abbrev pub NamesFormats : Reading → (from to : Named) → Result (NotationData × NotationData) Wrong → Type 0
-NamesFormats reading from to (Ok formats) = NamesBoth reading from to formats
-NamesFormats reading from to (Err wrong) = IsWrong reading from to wrong
+abbrev pub NamesFormats : Parsing → (from to : Named) → Result (NotationData × NotationData) Wrong → Type 0
+NamesFormats parsing from to (Ok formats) = NamesBoth parsing from to formats
+NamesFormats parsing from to (Err wrong) = IsWrong parsing from to wrong
 
 -- whether a text begins with ASCII whitespace
 abbrev pub begins_blank : List ℕ → Bool
@@ -254,10 +254,10 @@ fitting span from to (Err wrong) = Err wrong
 fitting span from to (Ok formats) = ok_unless formats (misfit span from to formats)
 
 -- what is named is told, or else what is wrong
-pub record NamesFormatsFor (reading : Reading) (span : Span) (from to : Named)
+pub record NamesFormatsFor (parsing : Parsing) (span : Span) (from to : Named)
     (result : Result (NotationData × NotationData) Wrong) : Type 0 where
   pub named : Result (NotationData × NotationData) Wrong
-  pub names : NamesFormats reading from to named
+  pub names : NamesFormats parsing from to named
   pub told : result ≡ fitting span from to named
 
 -- the message of arguments that are refused for this cause

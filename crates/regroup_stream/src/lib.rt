@@ -49,7 +49,9 @@ pub use crate::words::{
 };
 use num_format::CustomFormat;
 use regroup_faults::fault_message;
-pub use regroup_lines::{FieldRange, Fields, Invalid, Output, Quoting, Reading, Rules, Span};
+pub use regroup_lines::{
+    FieldRange, Fields, Invalid, Output, Parsing, Quoting, Reading, Rounding, Rules, Scale, Span,
+};
 use regroup_lines::{Notation, RegroupFault, Summary, regroup_at_most};
 use std::alloc::Global;
 use std::io::{BufWriter, ErrorKind, Read, Write};
@@ -73,7 +75,7 @@ use std::io::{BufWriter, ErrorKind, Read, Write};
 /// ```rust
 /// let rules = Rules {
 ///     span: Span::Line,
-///     reading: Reading::Strict,
+///     reading: Reading { parsing: Parsing::Strict, scale: None },
 ///     header_lines: 0,
 ///     passes_empty: false,
 ///     invalid: Invalid::Warn,
@@ -82,7 +84,7 @@ use std::io::{BufWriter, ErrorKind, Read, Write};
 ///     max_line_len: 99,
 ///     flushes: true,
 /// };
-/// let formats = formats_named(alloc, rules.reading, Source::Word("en"), Source::Word("de")).unwrap();
+/// let formats = formats_named(alloc, rules.reading.parsing, Source::Word("en"), Source::Word("de")).unwrap();
 /// let mut out = BufWriter::new(alloc, Vec::new(alloc))?;
 /// let mut rejects = BufWriter::new(alloc, Vec::new(alloc))?;
 /// let mut err = Vec::new(alloc);

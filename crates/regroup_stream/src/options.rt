@@ -20,7 +20,7 @@ const MAX_LINE_LEN: u32 = 1_048_576;
 ///     output_delimiter: None,
 ///     quoting: Quoting::Keep,
 ///     only: false,
-///     reading: Reading::Strict,
+///     reading: Reading { parsing: Parsing::Strict, scale: None },
 ///     header_lines: 0,
 ///     passes_empty: false,
 ///     invalid: None,

@@ -22,7 +22,7 @@ use num_format_decimal::marks_decimals;
 use num_format_digits::Digits;
 use num_format_digits::printing::put_text;
 use num_format_typed::TypedParser;
-use regroup_faults::{MAX_FAULT_MESSAGE_LEN, Reading, quoted};
+use regroup_faults::{MAX_FAULT_MESSAGE_LEN, Parsing, quoted};
 use regroup_lines::Span;
 use std::alloc::{AllocError, Global};
 use std::io::{ErrorKind, Write};
@@ -235,8 +235,8 @@ fn arguments_message(alloc: Global, cause: &str) -> Result<String, AllocError>
 /// last field but one if that names one, and else the last but two, so `custom:::Standard:-` has the separator `:`.
 ///
 /// ```rust
-/// formats_named(alloc, Reading::Strict, Source::Word("C"), Source::Word("de_DE.UTF-8")).is_ok()    // true
-/// formats_named(alloc, Reading::Strict, Source::Word("C"), Source::Word("xx")).err()    // Some(NoFormat("xx"))
+/// formats_named(alloc, Parsing::Strict, Source::Word("C"), Source::Word("de_DE.UTF-8")).is_ok()    // true
+/// formats_named(alloc, Parsing::Strict, Source::Word("C"), Source::Word("xx")).err()    // Some(NoFormat("xx"))
 /// ```
 ///
 /// # Errors
@@ -245,15 +245,15 @@ fn arguments_message(alloc: Global, cause: &str) -> Result<String, AllocError>
 /// second has no format, or one that is ambiguous.
 pub fn formats_named<'a>(
     alloc: Global,
-    reading: Reading,
+    parsing: Parsing,
     from: Source<'a>,
     to: Source<'a>,
 ) -> Result<Formats, Misuse<'a>>
-    ensures { NamesFormats reading (named_of from.entry) (named_of to.entry)
+    ensures { NamesFormats parsing (named_of from.entry) (named_of to.entry)
         (result_map_both (λ formats. (formats.from, formats.to)) wrong_of result) }
 {
     let source = from.format(alloc)?;
-    if let Some(ambiguity) = unread(reading, &source.format) {
+    if let Some(ambiguity) = unread(parsing, &source.format) {
         return Err(Misuse::Ambiguous(from.text(), ambiguity));
     }
     let target = to.format(alloc)?;
@@ -274,7 +274,7 @@ pub fn formats_named<'a>(
 /// let (delimiter, quotes, output, only) = (b',', false, None, false);
 /// let span = Span::Fields(Fields { list: &list, delimiter, quotes, output, only });
 /// let (from, to) = (Source::Word("plain"), Source::Word("de"));
-/// formats_for(alloc, Reading::Strict, &span, from, to).err()    // Some(Ambiguous("de", PrintsDelimiter))
+/// formats_for(alloc, Parsing::Strict, &span, from, to).err()    // Some(Ambiguous("de", PrintsDelimiter))
 /// ```
 ///
 /// # Errors
@@ -284,15 +284,15 @@ pub fn formats_named<'a>(
 /// quotes nor written anew.
 pub fn formats_for<'a>(
     alloc: Global,
-    reading: Reading,
+    parsing: Parsing,
     span: &Span<'_>,
     from: Source<'a>,
     to: Source<'a>,
 ) -> Result<Formats, Misuse<'a>>
-    ensures { NamesFormatsFor reading span.now (named_of from.entry) (named_of to.entry)
+    ensures { NamesFormatsFor parsing span.now (named_of from.entry) (named_of to.entry)
         (result_map_both (λ formats. (formats.from, formats.to)) wrong_of result) }
 {
-    let formats = formats_named(alloc, reading, from, to)?;
+    let formats = formats_named(alloc, parsing, from, to)?;
     match misfit(span, from, to, &formats) {
         Some(misuse) => Err(misuse),
         None => Ok(formats),
@@ -372,13 +372,13 @@ fn has_byte(text: &[u8], byte: u8) -> bool
 }
 
 /// Returns why numbers are not read so under the format, if they are not.
-fn unread(reading: Reading, format: &CustomFormat) -> Option<Ambiguity>
-    ensures { MatchOption result (IsReadUnder reading format.now) (IsUnread reading format.now) }
+fn unread(parsing: Parsing, format: &CustomFormat) -> Option<Ambiguity>
+    ensures { MatchOption result (IsReadUnder parsing format.now) (IsUnread parsing format.now) }
 {
-    match reading {
-        Reading::Lenient => None,
-        Reading::Strict => unmarked(format),
-        Reading::Typed => match unmarked(format) {
+    match parsing {
+        Parsing::Lenient => None,
+        Parsing::Strict => unmarked(format),
+        Parsing::Typed => match unmarked(format) {
             Some(ambiguity) => Some(ambiguity),
             None => match TypedParser::new(format) {
                 Ok(_) => None,

@@ -4,7 +4,9 @@ use crate::rules::RULES;
 use crate::{ReadStep, Scripted, ScriptedReader};
 use num_format::error::cut;
 use num_format::{Error, ErrorKind, Locale};
-use regroup_lines::{Notation, Reading, RegroupFault, Rules, Span, regroup_at_most, regroup_lines};
+use regroup_lines::{
+    Notation, Parsing, Reading, RegroupFault, Rules, Span, regroup_at_most, regroup_lines,
+};
 use std::alloc::Global;
 use std::io;
 use std::process::Abort;
@@ -32,7 +34,10 @@ fn at_most<R: io::Read, W: io::Write>(
 ) -> Result<u64, RegroupFault> {
     let rules = Rules {
         span: Span::Line,
-        reading: Reading::Lenient,
+        reading: Reading {
+            parsing: Parsing::Lenient,
+            scale: None,
+        },
         max_line_len: 4,
         flushes,
         ..RULES

@@ -5,7 +5,8 @@ use crate::rules::RULES;
 use crate::{ReadStep, Scripted, ScriptedReader};
 use num_format::{CustomFormat, Format, Grouping, Locale};
 use regroup_lines::{
-    FieldRange, Fields, Invalid, Notation, RegroupFault, Rules, Span, regroup_at_most,
+    FieldRange, Fields, Invalid, Notation, Parsing, Reading, RegroupFault, Rounding, Rules, Scale,
+    Span, regroup_at_most,
 };
 use std::alloc::Global;
 use std::io;
@@ -28,6 +29,15 @@ const IGNORED: Rules = Rules {
 const WARNED: Rules = Rules {
     invalid: Invalid::Warn,
     ..PLAIN
+};
+
+/// Numbers with two decimals.
+const CENTS: Reading = Reading {
+    parsing: Parsing::Strict,
+    scale: Some(Scale {
+        decimals: 2,
+        rounding: Rounding::HalfEven,
+    }),
 };
 
 /// The second field of each line.
@@ -56,9 +66,10 @@ const ONLY: Fields<'static> = Fields {
 type Kind<'a> = (Rules<'a>, &'a [u8], &'a [u8], [usize; 3]);
 
 #[rattlefmt::skip]
-const KINDS: [Kind<'static>; 20] = [
+const KINDS: [Kind<'static>; 21] = [
     (PLAIN, b"1,000\n-5\n", b"1.000\n-5\n", [2, 0, 0]),
     (PLAIN, b"1,000\n1,000", b"1.000\n1.000\n", [2, 0, 0]),
+    (Rules { reading: CENTS, ..PLAIN }, b"1,000.125\n-5\n", b"1.000,12\n-5,00\n", [2, 0, 0]),
     // What is before a number, the number, what is after it, and the end.
     (PLAIN, b" 1,000 \n", b" 1.000 \n", [4, 0, 0]),
     (PLAIN, b"\xef\xbb\xbf1,000\n", b"\xef\xbb\xbf1.000\n", [3, 0, 0]),

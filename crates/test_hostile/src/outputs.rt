@@ -7,7 +7,7 @@ use crate::rules::RULES;
 use crate::{ReadStep, Scripted, ScriptedReader, Step};
 use num_format::{CustomFormat, Locale};
 use regroup_lines::{RegroupFault, regroup_lines};
-use regroup_stream::{FAILED, Formats, NamedFormat, REGROUPED, Reading, Rules, run};
+use regroup_stream::{FAILED, Formats, NamedFormat, Parsing, REGROUPED, Reading, Rules, run};
 use std::alloc::Global;
 use std::io;
 use std::io::BufWriter;
@@ -19,7 +19,10 @@ const INPUT: &[u8] = b"1,000000\n-5\n";
 
 /// The rules under which the first line is a number.
 const LENIENT: Rules = Rules {
-    reading: Reading::Lenient,
+    reading: Reading {
+        parsing: Parsing::Lenient,
+        scale: None,
+    },
     ..RULES
 };
 

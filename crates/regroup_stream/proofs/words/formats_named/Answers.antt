@@ -12,21 +12,21 @@ returns-in_err-source c =
 
 pub returns-in-Some : goal.returns-in-Some
 returns-in-Some c = rw c.text.ensures (IsWrong.unread c.in_ok-source.source c.in-Some.ambiguity c.in_ok-source.ensures
-    (subst (λ n. IsUnread c.args.reading n.format c.in-Some.ambiguity) c.source.view_is c.in-Some.ensures))
+    (subst (λ n. IsUnread c.args.parsing n.format c.in-Some.ambiguity) c.source.view_is c.in-Some.ensures))
 
 pub returns-in_err-target : goal.returns-in_err-target
 returns-in_err-target c =
     let p = err_from_is_err_and c.from_residual-in_err-target.result c.from_residual-in_err-target.ensures.1 in
     rw (p.1, p.2) (IsWrong.second c.in_ok-source.source (wrong_of c.in_err-target.field-0.0) c.in_ok-source.ensures
-    (subst (λ n. IsReadUnder c.args.reading n.format) c.source.view_is c.in_default.ensures) c.in_err-target.ensures)
+    (subst (λ n. IsReadUnder c.args.parsing n.format) c.source.view_is c.in_default.ensures) c.in_err-target.ensures)
 
 pub returns-then-not-marks_decimals : goal.returns-then-not-marks_decimals
 returns-then-not-marks_decimals c =
     let from = named_of c.args.from in
     let to = named_of c.args.to in
     rw (c.text-then-not-marks_decimals.ensures, c.of.ensures)
-    (subst (λ n. IsWrong c.args.reading from to (Ambiguous (text_of_named to) (ambiguity_of n.format))) (sym c.target.view_is)
+    (subst (λ n. IsWrong c.args.parsing from to (Ambiguous (text_of_named to) (ambiguity_of n.format))) (sym c.target.view_is)
     (IsWrong.unwritten c.in_ok-source.source c.in_ok-target.target c.in_ok-source.ensures
-    (subst (λ n. IsReadUnder c.args.reading n.format) c.source.view_is c.in_default.ensures) c.in_ok-target.ensures
+    (subst (λ n. IsReadUnder c.args.parsing n.format) c.source.view_is c.in_default.ensures) c.in_ok-target.ensures
     (λ marked. both_ways _ c.if-not-marks_decimals.true
     (c.marks_decimals.ensures.1 (subst (λ n. MarksDecimals n.format) (sym c.target.view_is) marked)))))
