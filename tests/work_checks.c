@@ -172,6 +172,7 @@ static int digits_adlm(void) { return num_format_parse_decimal(&adlm, ADLM_DIGIT
 static int decimal_arabext(void) { return num_format_parse_decimal(&arabext, ARABEXT_DECIMAL, &low, &high, &scale, &at); }
 static int typed_long(void) { return num_format_parse_typed(&en, NUM_FORMAT_I64, LONG, &number, sizeof number, &at); }
 static int typed_plus(void) { return num_format_parse_typed(&en, NUM_FORMAT_I64, TEXT(" +1,234"), &number, sizeof number, &at); }
+static int typed_newline(void) { return num_format_parse_typed(&en, NUM_FORMAT_I64, TEXT("1,234\n"), &number, sizeof number, &at); }
 static int typed_french(void) { return num_format_parse_typed(&fr, NUM_FORMAT_I64, TEXT("-1 234"), &number, sizeof number, &at); }
 static int typed_minus(void) { return num_format_parse_typed(&en, NUM_FORMAT_I64, TEXT("\u2212" "1,234"), &number, sizeof number, &at); }
 static int typed_swiss(void) { return num_format_parse_typed(&de_CH, NUM_FORMAT_I64, TEXT("1'234"), &number, sizeof number, &at); }
@@ -248,6 +249,7 @@ static const struct {
     {"parse typed i64 -234", typed_short, 0},
     {"parse typed i64 INT64_MIN", typed_long, 0},
     {"parse typed i64 +1,234 after a space", typed_plus, 0},
+    {"parse typed i64 1,234 and a newline", typed_newline, 0},
     {"parse typed i64 -1,234 with U+2212", typed_minus, 0},
     {"parse typed i64 -1 234, fr", typed_french, 0},
     {"parse typed i64 -1 234 with U+00A0, fr", typed_no_break, 0},

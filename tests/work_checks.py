@@ -54,6 +54,7 @@ AT_MOST = [
     ),
     ("parse typed i64 INT64_MIN", 1.2, "parse strictly i64 INT64_MIN"),
     ("parse typed i64 +1,234 after a space", 3, "parse strictly i64 1,234"),
+    ("parse typed i64 1,234 and a newline", 3, "parse strictly i64 1,234"),
     ("parse typed i64 -1 234, fr", 3, "parse strictly i64 -1 234, fr"),
     ("parse typed decimal 1,234.50", 1.2, "parse decimal 1,234.50"),
     ("parse typed decimal +1,234.50 after a space", 3, "parse decimal 1,234.50"),

@@ -3,8 +3,9 @@ use Rattle.std.proofs.Common.{◌≡◌, ℕ, ◌≤◌, List, Bool, true, ◌&&
 use Rattle.std.specs.Prelude.{Contains, codes}
 use Rattle.std.specs.List.{list_all}
 use Rattle.std.specs.Cmp.{first_so, second_so}
-use Rattle.std.specs.Str.{chars}
+use Rattle.std.specs.Str.{chars, is_utf8}
 use Rattle.std.proofs.lemmas.Bool.{leb-true, not-true}
+use Rattle.std.proofs.lemmas.Str.{IsUtf8-from_is_utf8}
 use lib.Utf8.{encode}
 use Rattle.num_format_text.specs.Format.{FormatData}
 use Rattle.num_format_parsing.specs.Strict.{IsUnambiguous}
@@ -14,8 +15,8 @@ use Rattle.num_format_parsing.proofs.ReadingLemmas.{ucd_category}
 use Rattle.num_format_parsing.proofs.SymbolLemmas.{bare, is_bare, locale-sign, of_all}
 use Rattle.num_format_typed.specs.Classes.{is_of}
 use Rattle.num_format_typed.specs.Rewriting.{without_ends}
-use Rattle.num_format_typed.specs.Typed.{HasUsualSymbols, IsTypable, begins_with, core_of, has_shared, is_own, separator_of, usual_marks}
-use Rattle.num_format_typed.specs.Typed.{usual_separators}
+use Rattle.num_format_typed.specs.Typed.{HasSymbols, HasUsualSymbols, IsTypable, begins_with, core_of, has_shared, is_own, separator_of}
+use Rattle.num_format_typed.specs.Typed.{usual_marks, usual_separators}
 use Rattle.num_format_typed.specs.declared.classes.Class.TheVariants.{Direction, End, Plus}
 
 -- what is asked of symbols, as a test; `core` is the minus sign without marks of direction at its ends
@@ -65,6 +66,22 @@ separators_bare : list_all (λ s. is_bare s) usual_separators ≡ true
 unfolding chars encode ucd_category
 separators_bare = refl
 
+-- each usual symbol is UTF-8, and no longer than there is room for
+abbrev fits : List ℕ → Bool
+fits s = is_utf8 s && nat_le (length s) 8
+
+signs_fit : list_all (λ s. fits s) locale_signs ≡ true
+unfolding chars is_utf8 encode
+signs_fit = refl
+
+marks_fit : list_all (λ s. fits s) usual_marks ≡ true
+unfolding chars is_utf8 encode
+marks_fit = refl
+
+separators_fit : list_all (λ s. fits s) usual_separators ≡ true
+unfolding chars is_utf8 encode
+separators_fit = refl
+
 -- so a format with usual symbols is neither ambiguous for strict parsing nor else
 module _ (f : FormatData) (usual : HasUsualSymbols f) where
   printed : Contains usual_separators (separator_of f)
@@ -86,3 +103,17 @@ module _ (f : FormatData) (usual : HasUsualSymbols f) where
       let of_sign = of_all (λ m. sign_passes m) locale_signs f.minus_sign usual_pass usual.sign in
       let of_mark = of_all (λ d. passes_under f.minus_sign d) usual_marks f.decimal of_sign usual.mark in
       typable f usual-unambiguous (of_all (λ s. passes_with f.minus_sign f.decimal s) usual_separators (separator_of f) of_mark printed)
+
+  pub usual-symbols : HasSymbols f
+  usual-symbols =
+      let sign = of_all (λ s. fits s) locale_signs f.minus_sign signs_fit usual.sign in
+      let mark = of_all (λ s. fits s) usual_marks f.decimal marks_fit usual.mark in
+      let separator = of_all (λ s. fits s) usual_separators f.separator separators_fit usual.separator in
+      record {
+        sign = IsUtf8-from_is_utf8 f.minus_sign (first_so _ _ sign);
+        mark = IsUtf8-from_is_utf8 f.decimal (first_so _ _ mark);
+        separator = IsUtf8-from_is_utf8 f.separator (first_so _ _ separator);
+        sign_len = leb-true _ _ (second_so _ _ sign);
+        mark_len = leb-true _ _ (second_so _ _ mark);
+        separator_len = leb-true _ _ (second_so _ _ separator);
+      }

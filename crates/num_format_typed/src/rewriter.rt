@@ -15,7 +15,7 @@ ghost use Rattle.num_format_typed.specs.Typed.{separator_of, sign_of, unsigned};
 use crate::classes::Class;
 use crate::error::TypedError;
 use crate::rewriting::{
-    bytes_within, rewrite, split_first, without_end, without_ends, without_front,
+    bytes_within, ends_in_digit, rewrite, split_first, without_end, without_ends, without_front,
 };
 use crate::symbols::{Symbols, core_of, has_usual_symbols, is_typable};
 use crate::utf8::text_of;
@@ -150,16 +150,17 @@ impl<'a, F: Format> Rewriter<'a, F> {
         if !is_typable(format, Symbols { separator, mark }, numbers.minus_sign()) {
             return Err(StrictError::AmbiguousFormat);
         }
+        know_symbols(format);
         Ok(Rewriter::typable(format))
     }
 
     /// Returns a rewriter for a format under which what people type has one meaning.
     #[inline(always)]
     fn typable(format: &'a F) -> Rewriter<'a, F>
-        requires { IsTypable (F.answers format.now) }
+        requires typable { IsTypable (F.answers format.now) }
+        requires symbols { HasSymbols (F.answers format.now) }
         ensures { result ≡ F.answers format.now }
     {
-        know_symbols(format);
         Rewriter {
             format,
             numbers: StrictParser::unambiguous(format),
@@ -213,8 +214,8 @@ impl<'a, F: Format> Rewriter<'a, F> {
         know_symbols(format);
         let parser = P::under(format);
         let trimmed = without_ends(text, Class::End);
-        // Most texts that strict parsing refuses have a blank at an end, as what is pasted has.
-        if trimmed.len() < text.len() {
+        // Many texts have an end of a line, or a blank, and are else as the format prints them.
+        if trimmed.len() < text.len() && !ends_in_digit(text) {
             if let Some(number) = parser.number(trimmed.as_bytes()) {
                 return Ok(number);
             }
@@ -328,6 +329,7 @@ impl<'a, F: Format> Rewriter<'a, F> {
         requires { IsTypable (F.answers format.now) }
         ensures { result ≡ placed (place_in (F.answers format.now) text.now) error }
     {
+        know_symbols(format);
         match error {
             StrictError::Unexpected { at } => StrictError::Unexpected {
                 at: Rewriter::typable(format).place(text, at),

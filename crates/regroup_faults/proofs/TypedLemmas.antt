@@ -1,5 +1,5 @@
 -- The definitions of what a person means by a text are what typed parsing returns.
-use Rattle.std.proofs.Common.{Decides, Err, IsUtf8, List, None, Ok, Result, [], arith, false, length, refl, ℕ, ◌≡◌}
+use Rattle.std.proofs.Common.{Decides, Err, IsUtf8, List, Ok, Result, [], arith, false, length, refl, ℕ, ◌≡◌}
 use Rattle.std.proofs.lemmas.Bool.{false_from_ne_true, le-leb, leb-true, lt-ltb, ltb-true, not-true, not_from_false}
 use Rattle.std.proofs.lemmas.Bool.Decides.{Decides-and, Decides-like, Decides-not}
 use Rattle.std.proofs.lemmas.Slice.Eq.{bytes_eq-Decides}
@@ -16,9 +16,8 @@ use Rattle.num_format_typed.specs.Typed.{IsTypable, TypedDecimalResult, TypedRes
 use Rattle.num_format_typed.specs.Typed.{typed_text}
 use Rattle.num_format_typed.specs.declared.error.TypedError.{TypedError}
 use Rattle.num_format_typed.specs.declared.error.TypedError.TheVariants.{Number, TooLong}
-use Rattle.regroup_faults.proofs.DecimalLemmas.{decimal_read-is, decimal_read-parsed, marks-Decides, parsed-utf8, plain-marks, why-is}
-use Rattle.regroup_faults.proofs.DecimalLemmas.{why-parsed}
-use Rattle.regroup_faults.specs.Decimals.{decimal_read, typed_read, types_decimals}
+use Rattle.regroup_faults.proofs.DecimalLemmas.{decimal_read-is, marks-Decides, plain-marks, why-is, why-parsed}
+use Rattle.regroup_faults.specs.Decimals.{typed_read, types_decimals}
 use Rattle.regroup_faults.specs.Messages.{why_in, why_placed, why_refused, why_untyped}
 use Rattle.regroup_faults.specs.declared.message.Why.{Why}
 use Rattle.regroup_faults.specs.declared.message.Why.TheVariants as why

@@ -1,7 +1,6 @@
 -- The decimal for which a text is canonical, as a value.
 use Rattle.std.specs.Prelude.{ℕ, ◌+◌, zero, suc, nat_le, Bool, not, ◌&&◌, ◌||◌, if◌then◌else◌, List, [], length, Option, None, Some}
 use Rattle.std.specs.List.{list_any}
-use Rattle.std.specs.Option.{option_or}
 use Rattle.std.specs.Str.{bytes_eq, chars}
 use Rattle.num_format.specs.Format.{FormatData}
 use Rattle.num_format.specs.Grouped.{printed_separator}

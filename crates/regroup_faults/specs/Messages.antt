@@ -23,7 +23,7 @@ use Rattle.num_format_parsing.specs.declared.error.StrictError.TheVariants as st
 use Rattle.num_format_typed.specs.Typed.{place_in, typed_text}
 use Rattle.regroup_faults.specs.Notation.{NotationData}
 use Rattle.regroup_faults.specs.Quoting.{hex_digit, quoted, shown}
-use Rattle.regroup_faults.specs.Decimals.{decimal_read, marks_decimals, canonical_value, typed_read, types_decimals}
+use Rattle.regroup_faults.specs.Decimals.{marks_decimals, canonical_value, typed_read, types_decimals}
 use Rattle.regroup_faults.specs.Fault.{Fault, line_of}
 use Rattle.regroup_faults.specs.Fault.Fault.{TooMany, TooLong, FewFields, Read, NotText, FieldNotText, Line, Field, Unclosed, Write, Report}
 use Rattle.regroup_faults.specs.Fault.Fault.{Reject, Flush}
