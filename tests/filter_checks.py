@@ -83,8 +83,8 @@ AMOUNTS += ["12x", '"1\n000"', '5"', '"5" ', ' "5"', "1.0", '"7"\t']
 AMOUNT = re.compile(r"-?(\d{1,3}(,\d{3})+|\d+)(\.\d+)?")
 RANDOM_RECORDS = 8000
 
-# The recipe of the man page.
-RECIPE = re.compile(r"^\.Bd -literal[^\n]*\n(regroup-lines --csv --quote necessary.*?)^\.Ed$", re.DOTALL | re.MULTILINE)
+# The words of the sum in the man page.
+COMMAND = re.compile(r"^\.Dl regroup-lines (.*--sum.*)$", re.MULTILINE)
 
 
 def compare(tally, name, ended, status, out, err):
@@ -170,22 +170,18 @@ def check_random_fields(tally, program):
 
 
 def check_sum(tally, program):
-    """The recipe of the man page sums what Python sums of a table that Python's `csv` wrote."""
+    """The command of the man page sums what Python sums of a table that Python's `csv` wrote."""
     heading("the sum of the man page")
-    if tally.lacks("bc", "the sum of the man page"):
-        return
     page = (ROOT / "man" / "regroup-lines.1").read_text(encoding="utf-8")
-    recipe = RECIPE.search(page)[1].replace("\\e", "\\")
+    words = COMMAND.search(page)[1].split()
     randomly = random.Random(56)
     rows = [row_of(randomly) for _ in range(RECORDS)]
     table = [["name", "note", "amount"], *([first, third, second] for first, second, third, _ in rows)]
     total = sum(Decimal(second.replace(",", "")) for _, second, _, _ in rows)
     with tempfile.TemporaryDirectory() as folder:
-        (Path(folder) / "regroup-lines").symlink_to(program)
         for quoting in [csv.QUOTE_MINIMAL, csv.QUOTE_ALL]:
             (Path(folder) / "sales.csv").write_bytes(written(table, quoting, "\r\n"))
-            how = {"cwd": folder, "env": {**os.environ, "PATH": f"{folder}:{os.environ['PATH']}"}}
-            ended = run(["bash", "-c", recipe], capture_output=True, **how)
+            ended = regroup(program, words, b"", cwd=folder)
             compare(tally, f"quoting {quoting}", ended, 0, f"{total:.2f}\n".encode(), b"")
 
 

@@ -32,7 +32,7 @@ PASSED_REFUSED = (0, b"refused\n\ntest result: ok\n", b"")
 
 # What refuses a request for memory, and more requests than the program or a test makes.
 REFUSE_MEMORY = ROOT / "tests" / "refuse_memory.c"
-MANY_REQUESTS = 100
+MANY_REQUESTS = 200
 
 # How a program ends that gets no memory.
 FAILED = (3, b"", b"")
@@ -42,6 +42,7 @@ FILTER_CASES = [
     Case("en de", [b"en", b"de"]),
     Case("en custom", [b"en", b"custom:,:Indian:-"]),
     Case("--field 1,3- en de", [b"--field", b"1,3-", b"en", b"de"]),
+    Case("--field 1 --sum en de", [b"--field", b"1", b"--sum", b"en", b"de"]),
     Case("en xx", [b"en", b"xx"], status=2, err=filter_checks.UNKNOWN),
 ]
 

@@ -1,7 +1,7 @@
 # Completes the options of regroup-lines, and the values of --invalid, --quote and --round.
 _regroup_lines() {
     local word=${COMP_WORDS[COMP_CWORD]} before=${COMP_WORDS[COMP_CWORD - 1]}
-    local words="--field --delimiter --csv --output-delimiter --quote --only --header --header-lines --empty --invalid --rejects --typed --lenient --decimals --round --line-buffered --zero-terminated --help --version"
+    local words="--field --delimiter --csv --output-delimiter --quote --only --sum --header --header-lines --empty --invalid --rejects --typed --lenient --decimals --round --line-buffered --zero-terminated --help --version"
     case $before in
     --invalid) words="abort fail warn ignore" ;;
     --quote) words="keep necessary" ;;

@@ -8,7 +8,7 @@ use Rattle.regroup_lines.proofs.Common.{◌≤◌}
 use Rattle.std.specs.List.{slice_index}
 use Rattle.std.proofs.lemmas.List.Folds.{list_any_at}
 use Rattle.regroup_lines.specs.Adding.{Adds}
-use Rattle.regroup_lines.specs.Csv.{needs_quotes}
+use Rattle.regroup_lines.specs.Csv.{is_bare, needs_quotes}
 use Rattle.regroup_lines.specs.Ended.{len_without}
 use Rattle.regroup_lines.specs.declared.rules.Output.{Output}
 
@@ -93,9 +93,11 @@ module _ (output : Output) (e : ℕ) where
           let any = list_any_at needs field (length field - 1) 0 (omega (arith, below)) (grind (arith, last)) in
           absurd (cc)
 
-  pub unneeded : (quotes : Bool) (field : List ℕ) → list_any needs field ≡ false → passed_as (Some output) quotes e field ≡ field
-  unneeded quotes field none =
+  pub unneeded : (quotes : Bool) (field : List ℕ) → is_bare output.quoting ≡ false → list_any needs field ≡ false
+      → passed_as (Some output) quotes e field ≡ field
+  unneeded quotes field around none =
       rw (
+        around,
         not_opened field none,
         and_none quotes,
         not_returned field none,

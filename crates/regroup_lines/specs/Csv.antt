@@ -9,7 +9,7 @@ use Rattle.regroup_lines.specs.Records.{is_quote}
 use Rattle.regroup_lines.specs.declared.rules.Fields.{Fields}
 use Rattle.regroup_lines.specs.declared.rules.Output.{Output}
 use Rattle.regroup_lines.specs.declared.rules.Quoting.{Quoting}
-use Rattle.regroup_lines.specs.declared.rules.Quoting.TheVariants.{Keep, Necessary}
+use Rattle.regroup_lines.specs.declared.rules.Quoting.TheVariants.{Bare, Keep, Necessary}
 use Rattle.regroup_lines.specs.declared.line_text.Part.{Part}
 use Rattle.regroup_lines.specs.declared.line_text.Part.TheVariants.{Doubled, Plain}
 
@@ -40,6 +40,13 @@ needs_quotes delimiter line_end b = is_quote b || (b == 13 || (b == 10 || (b == 
 abbrev pub keeps : Quoting → Bool
 keeps Keep = true
 keeps Necessary = false
+keeps Bare = false
+
+-- whether of a field its number alone is written
+abbrev pub is_bare : Quoting → Bool
+is_bare Keep = false
+is_bare Necessary = false
+is_bare Bare = true
 
 -- whether a field begins with a quote
 abbrev pub is_opened : List ℕ → Bool
@@ -57,10 +64,10 @@ abbrev pub part_text : Part → List ℕ
 part_text (Plain bytes) = bytes.now
 part_text (Doubled bytes) = doubled bytes.now
 
--- a text of a field as an output has it, with what is around it but for the quote that opens it, if one does: in quotes if it has to be, or
--- if it was and these are kept, and each quote is doubled, as those are that were in quotes; a last carriage return may end the line
-abbrev pub output_as : Output → (line_end : ℕ) → (is_quoted : Bool) → (before after : List ℕ) → List ℕ → List ℕ
-output_as output line_end is_quoted before after text =
+-- a text of a field with what is around it but for the quote that opens it, if one does: in quotes if it has to be, or if it was and an
+-- output keeps these, and each quote is doubled, as those are that were in quotes; a last carriage return may end the line
+abbrev pub around_as : Output → (line_end : ℕ) → (is_quoted : Bool) → (before after : List ℕ) → List ℕ → List ℕ
+around_as output line_end is_quoted before after text =
     let inner = without_end 13 after in
     let quoted = if is_quoted then take (quoted_len inner) inner else [] in
     let bare = if is_quoted then drop (quoted_len inner + 1) inner else inner in
@@ -68,6 +75,11 @@ output_as output line_end is_quoted before after text =
     (before ∷ text ∷ quoted ∷ bare ∷ []) in
     let quote = if is_enclosed then 34 ∷ [] else [] in
     quote ++ (doubled before ++ (doubled text ++ (quoted ++ (doubled bare ++ (quote ++ drop (len_without 13 after) after)))))
+
+-- a text of a field as an output has it: alone, or with what is around it
+abbrev pub output_as : Output → (line_end : ℕ) → (is_quoted : Bool) → (before after : List ℕ) → List ℕ → List ℕ
+output_as output line_end is_quoted before after text =
+    if is_bare output.quoting then text else around_as output line_end is_quoted before after text
 
 -- how a field with this text is written, if it is written anew: as the output says, or in the quotes that the text needs and the field has
 -- not

@@ -5,8 +5,8 @@ ghost use Rattle.std.specs.List.{list_any};
 ghost use Rattle.std.specs.Result.{result_map_both};
 ghost use Rattle.regroup_faults.specs.Notation.{NotationData};
 ghost use Rattle.regroup_lines.specs.Adding.{Adds, AddsIf, Separates};
-ghost use Rattle.regroup_lines.specs.Csv.{is_barred, is_opened, is_quoted, needs_quotes, number_place, output_as};
-ghost use Rattle.regroup_lines.specs.Csv.{output_delimiter, output_of, passed_as, placed, quoted_len};
+ghost use Rattle.regroup_lines.specs.Csv.{around_as, is_barred, is_opened, is_quoted, needs_quotes, number_place};
+ghost use Rattle.regroup_lines.specs.Csv.{output_as, output_delimiter, output_of, passed_as, placed, quoted_len};
 ghost use Rattle.regroup_lines.specs.LineFaults.{line_fault_of};
 ghost use Rattle.regroup_lines.specs.Lines.{after, chosen_replaced, field_written, fields_replaced, line_ended};
 ghost use Rattle.regroup_lines.specs.Places.{is_chosen, place_of, trimmed};
@@ -336,6 +336,9 @@ impl<F: Format, G: Format> Line<'_, F, G> {
             return text.append(field);
         };
         let line_end = self.job.rules.line_end;
+        if output.is_bare() {
+            return text.append(&[]);
+        }
         if !needs_quotes(output.delimiter, line_end, field) {
             return text.append(field);
         }
@@ -410,6 +413,24 @@ fn append_output(
 )
     ensures { Adds text.old text.new
         (output_as output line_end around.entry.is_quoted around.entry.before.now around.entry.after.now number.now) }
+{
+    if output.is_bare() {
+        text.append(number)
+    } else {
+        append_around(output, line_end, around, number, text)
+    }
+}
+
+/// Appends a field with this text, what is around it, and the quotes that an output has.
+fn append_around(
+    output: Output,
+    line_end: u8,
+    around: Around<'_>,
+    number: &[u8],
+    text: &mut LineText,
+)
+    ensures { Adds text.old text.new
+        (around_as output line_end around.entry.is_quoted around.entry.before.now around.entry.after.now number.now) }
 {
     // A last carriage return may end the line.
     let (after, end) = around.after.split_at(len_without(b'\r', around.after));

@@ -1,6 +1,6 @@
 //! How the lines of an input are regrouped, and where the numbers of a line are.
 ghost use Rattle.std.specs.Prelude.{◌≡◌, ◌≤◌, length, true, None, IfSome};
-ghost use Rattle.regroup_lines.specs.Csv.{output_delimiter};
+ghost use Rattle.regroup_lines.specs.Csv.{is_bare, output_delimiter};
 ghost use Rattle.regroup_lines.specs.Lines.{mark_len, passes, quotes_in, quotes_of};
 ghost use Rattle.regroup_lines.specs.Places.{are_enough, field_count, is_at_most, is_chosen, least_of, next_of};
 ghost use Rattle.regroup_lines.specs.Places.{place_of, trimmed, wanted_of};
@@ -47,6 +47,8 @@ pub enum Quoting {
     Keep,
     /// Only those that need them.
     Necessary,
+    /// None: of a field its number alone is written, without what is around it, and nothing of a field without one.
+    Bare,
 }
 
 /// How fields are written.
@@ -136,6 +138,15 @@ impl Invalid {
     }
 }
 
+impl Output {
+    /// Returns whether of a field its number alone is written.
+    pub(crate) fn is_bare(&self) -> bool
+        ensures { result ≡ is_bare self.now.quoting }
+    {
+        matches!(self.quoting, Quoting::Bare)
+    }
+}
+
 impl Span<'_> {
     /// Returns how many bytes of the line of this number are a byte order mark that is not part of it.
     pub(crate) fn mark_len(&self, number: u64, text: &[u8]) -> usize
@@ -213,7 +224,7 @@ impl Fields<'_> {
     }
 
     /// Returns the byte between two fields that are written.
-    pub(crate) fn output_delimiter(&self) -> u8
+    pub fn output_delimiter(&self) -> u8
         ensures { result ≡ output_delimiter self.now }
     {
         match &self.output {

@@ -149,7 +149,17 @@ fn with_output_options<'a>(alloc: Global, command: Command<'a>) -> Result<Comman
             "only",
             "Write the chosen fields alone, in their order in the line",
         )?
-        .requires_arg("field")?)
+        .requires_arg("field")?)?
+        .arg(
+            flag(
+                alloc,
+                "sum",
+                "Write no line, but at the end one line with the sum of each chosen field",
+            )?
+            .requires_arg("field")?
+            .conflicts_with("only")?
+            .conflicts_with("quote")?,
+        )
 }
 
 /// Returns the command line with its options about lines that are no numbers.

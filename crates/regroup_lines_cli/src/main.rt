@@ -21,7 +21,9 @@ use crate::output::Output;
 use crate::words::Word;
 use clap::ArgMatches;
 use clap::error::ErrorKind;
-use regroup_stream::{FAILED, FieldList, REGROUPED, Rules, formats_for, refuse_arguments, run_all};
+use regroup_stream::{
+    FAILED, FieldList, NoLog, REGROUPED, Rules, formats_for, refuse_arguments, run_all, sum_all,
+};
 use std::io::BufWriter;
 use std::process::ExitCode;
 use std::{env, io};
@@ -115,6 +117,21 @@ fn regroup_files(
     };
     let mut rejects = BufWriter::with_capacity(rt.alloc(), capacity, Output::new(rejects))?;
     let mut out = BufWriter::with_capacity(rt.alloc(), capacity, Output::new(rt.stdout()))?;
+    if matches.get_flag("sum") {
+        return Ok(sum_all(
+            rt.alloc(),
+            rules,
+            field_names,
+            formats,
+            names,
+            &mut buffer,
+            &inputs,
+            NoLog,
+            &mut out,
+            &mut err,
+            &mut rejects,
+        ));
+    }
     Ok(run_all(
         rt.alloc(),
         rules,

@@ -54,6 +54,8 @@ fn cause_in(alloc: Global, kind: ErrorKind, text: &str) -> Result<String, AllocE
                 "option '--output-delimiter' requires '--field'"
             } else if text.contains("--only") {
                 "option '--only' requires '--field'"
+            } else if text.contains("--sum") {
+                "option '--sum' requires '--field'"
             } else {
                 "option '--delimiter' requires '--field'"
             };

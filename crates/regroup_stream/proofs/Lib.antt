@@ -4,3 +4,5 @@ pub mod ListLemmas
 pub mod NameLemmas
 pub mod SplitLemmas
 pub mod StreamLemmas
+pub mod SumLemmas
+pub mod TabLemmas

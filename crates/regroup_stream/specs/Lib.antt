@@ -1,4 +1,5 @@
 -- The definitions that the contracts of this crate use.
+pub mod Columns
 pub mod Ending
 pub mod Files
 pub mod Inputs
@@ -6,4 +7,6 @@ pub mod Lists
 pub mod Names
 pub mod Options
 pub mod Stream
+pub mod SumAll
+pub mod Sums
 pub mod Words

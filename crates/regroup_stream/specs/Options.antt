@@ -8,7 +8,7 @@ use Rattle.regroup_lines.specs.declared.rules.Invalid.{Invalid}
 use Rattle.regroup_lines.specs.declared.rules.Invalid.TheVariants.{Abort, Fail}
 use Rattle.regroup_lines.specs.declared.rules.Output.{Output}
 use Rattle.regroup_lines.specs.declared.rules.Quoting.{Quoting}
-use Rattle.regroup_lines.specs.declared.rules.Quoting.TheVariants.{Keep, Necessary}
+use Rattle.regroup_lines.specs.declared.rules.Quoting.TheVariants.{Keep}
 use Rattle.regroup_lines.specs.declared.rules.Rules.{Rules}
 use Rattle.regroup_lines.specs.declared.rules.Span.{Span}
 use Rattle.regroup_lines.specs.declared.rules.Span.TheVariants as span
@@ -53,7 +53,7 @@ output_delimiter_named options text = output_delimiter_in (line_end_of options) 
 -- passed on if neither is asked for
 abbrev pub output_of : Options → (delimiter : ℕ) → Option (Bor (List ℕ)) → Quoting → Result (Option Output) OptionFault
 output_of options delimiter None Keep = Ok None
-output_of options delimiter None Necessary = Ok (Some (record { delimiter = delimiter; quoting = Necessary }))
+output_of options delimiter None quoting = Ok (Some (record { delimiter = delimiter; quoting = quoting }))
 output_of options delimiter (Some text) quoting =
     result_map_both (λ given. Some (record { delimiter = given; quoting = quoting })) (λ fault. fault)
     (output_delimiter_named options text.now)

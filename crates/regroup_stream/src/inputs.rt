@@ -4,7 +4,7 @@ ghost use Rattle.std.specs.Io.Buffered.{writer_buffer, writer_contents};
 ghost use Rattle.std.specs.IoError.{error_kind};
 ghost use Rattle.std.specs.Result.{result_map_both};
 ghost use Rattle.regroup_lines.specs.Sending.{by_writer};
-ghost use Rattle.regroup_stream.specs.Inputs.{Opens, RunsAll, RunsOne, reads_on};
+ghost use Rattle.regroup_stream.specs.Inputs.{Opens, RunsAll, RunsOne, RunsWhole, reads_on};
 ghost use Rattle.regroup_stream.specs.declared.inputs.Unread.TheVariants.{CannotOpen};
 
 use crate::names::run_named;
@@ -76,9 +76,45 @@ pub fn run_all<I: Open, O: Write + Drop, E: Write, X: Write + Drop>(
         (by_writer (writer_buffer out.old) [] (writer_buffer rejects.old))
         (by_writer (writer_buffer out.new) [] (writer_buffer rejects.new)) }
 {
-    let mut status = REGROUPED;
+    let (status, _) = run_each(
+        alloc,
+        rules,
+        field_names,
+        formats,
+        names,
+        buffer,
+        inputs,
+        out,
+        err,
+        rejects,
+    );
+    status
+}
+
+/// Does the same, and returns also whether all lines of each input were taken.
+pub(crate) fn run_each<I: Open, O: Write + Drop, E: Write, X: Write + Drop>(
+    alloc: Global,
+    rules: &Rules,
+    field_names: &[&str],
+    formats: &Formats,
+    names: &[&str],
+    buffer: &mut [u8],
+    inputs: &I,
+    out: &mut BufWriter<O>,
+    err: &mut E,
+    rejects: &mut BufWriter<X>,
+) -> (u8, bool)
+    requires { length buffer.old ≡ rules.now.max_line_len + 1 }
+    ensures { RunsWhole (I.opens inputs.now) rules.now (map (λ name. name.now) field_names.now)
+        formats.now.from formats.now.to (map (λ name. name.now) names.now) result.0 result.1
+        (by_writer (writer_contents O.contents out.old) (E.contents err.old) (writer_contents X.contents rejects.old))
+        (by_writer (writer_contents O.contents out.new) (E.contents err.new) (writer_contents X.contents rejects.new))
+        (by_writer (writer_buffer out.old) [] (writer_buffer rejects.old))
+        (by_writer (writer_buffer out.new) [] (writer_buffer rejects.new)) }
+{
+    let (mut status, mut is_whole) = (REGROUPED, true);
     for name in names {
-        let (ended, goes_on) = run_one(
+        let (ended, goes_on, is_taken) = run_one(
             alloc,
             rules,
             field_names,
@@ -91,15 +127,16 @@ pub fn run_all<I: Open, O: Write + Drop, E: Write, X: Write + Drop>(
             rejects,
         );
         status = status.max(ended);
+        is_whole &= is_taken;
         if !goes_on {
-            return status;
+            return (status, is_whole);
         }
     }
-    status
+    (status, is_whole)
 }
 
-/// Regroups the lines of the input of that name, or sends the message of why it is not read. Returns its status, and
-/// whether the next input is read.
+/// Regroups the lines of the input of that name, or sends the message of why it is not read. Returns its status,
+/// whether the next input is read, and whether all lines of this one were taken.
 fn run_one<I: Open, O: Write + Drop, E: Write, X: Write + Drop>(
     alloc: Global,
     rules: &Rules,
@@ -111,10 +148,10 @@ fn run_one<I: Open, O: Write + Drop, E: Write, X: Write + Drop>(
     out: &mut BufWriter<O>,
     err: &mut E,
     rejects: &mut BufWriter<X>,
-) -> (u8, bool)
+) -> (u8, bool, bool)
     requires { length buffer.old ≡ rules.now.max_line_len + 1 }
     ensures { RunsOne (I.opens inputs.now) rules.now (map (λ name. name.now) field_names.now)
-        formats.now.from formats.now.to name.now result.0 result.1
+        formats.now.from formats.now.to name.now result.0 result.1 result.2
         (by_writer (writer_contents O.contents out.old) (E.contents err.old) (writer_contents X.contents rejects.old))
         (by_writer (writer_contents O.contents out.new) (E.contents err.new) (writer_contents X.contents rejects.new))
         (by_writer (writer_buffer out.old) [] (writer_buffer rejects.old))
@@ -134,10 +171,11 @@ fn run_one<I: Open, O: Write + Drop, E: Write, X: Write + Drop>(
                 err,
                 rejects,
             );
-            (status, reads_on(rules.invalid, status))
+            let is_taken = reads_on(rules.invalid, status);
+            (status, is_taken, is_taken)
         }
-        Err(Unread::CannotOpen(kind)) => (refuse(name, kind, err), true),
-        Err(Unread::IsOutput) => (refuse_output(name, err), true),
+        Err(Unread::CannotOpen(kind)) => (refuse(name, kind, err), true, false),
+        Err(Unread::IsOutput) => (refuse_output(name, err), true, false),
     }
 }
 

@@ -23,6 +23,9 @@ mod list;
 mod named_format;
 mod names;
 mod options;
+mod summing;
+mod sums;
+mod totals;
 mod watched;
 mod words;
 
@@ -43,6 +46,8 @@ pub use crate::inputs::{Open, Unread, run_all};
 pub use crate::list::{FieldList, field_list};
 pub use crate::named_format::NamedFormat;
 pub use crate::options::{OptionFault, Options};
+pub use crate::summing::{Log, NoLog};
+pub use crate::totals::sum_all;
 use crate::watched::Watched;
 pub use crate::words::{
     Ambiguity, Formats, Misuse, Source, formats_for, formats_named, refuse_arguments,

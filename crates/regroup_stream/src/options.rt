@@ -138,7 +138,7 @@ impl<'a> Options<'a, '_> {
         let quoting = self.quoting;
         match (self.output_delimiter, quoting) {
             (None, Quoting::Keep) => Ok(None),
-            (None, Quoting::Necessary) => Ok(Some(Output { delimiter, quoting })),
+            (None, Quoting::Necessary | Quoting::Bare) => Ok(Some(Output { delimiter, quoting })),
             (Some(text), _) => Ok(Some(Output {
                 delimiter: self.output_delimiter_named(text)?,
                 quoting,

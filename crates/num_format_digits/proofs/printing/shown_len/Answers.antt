@@ -15,5 +15,6 @@ loop-byte-preserved c =
           c.zero_bytes-width.ensures.set c.zero_bytes-width.ensures.bytes (sym digit ∙ w.if-is_ascii_digit.true) in
           let few = c.zero_bytes-width.ensures.bytes.within in
           (grind (arith, common_steps, before.0, wide, w.len-is), omega (arith, before.1, few, w.len-is))
-      | else-is_ascii_digit w ↦ (grind (arith, common_steps, before.0, digit, w.if-is_ascii_digit.false, w.len-is), omega (arith, before.1, w.len-is))
+      | else-is_ascii_digit w ↦
+          (grind (arith, common_steps, before.0, digit, w.if-is_ascii_digit.false, w.len-is), omega (arith, before.1, w.len-is))
     ]

@@ -2,7 +2,7 @@ use Rattle.regroup_stream.specs.Inputs.{RunsOne}
 use Rattle.regroup_stream.proofs.inputs.run_one.Goals as goal
 
 pub returns-in-Ok : goal.returns-in-Ok
-returns-in-Ok g c = rw c.reads_on.ensures (RunsOne.read _ _ _ _ _ _ (rw c.in-Ok.is at c.open.ensures) c.run_named-status.ensures)
+returns-in-Ok g c = rw c.reads_on-is_taken.ensures (RunsOne.read _ _ _ _ _ _ (rw c.in-Ok.is at c.open.ensures) c.run_named-status.ensures)
 
 pub returns-in-Err-CannotOpen : goal.returns-in-Err-CannotOpen
 returns-in-Err-CannotOpen g c =
