@@ -232,7 +232,7 @@ pub fn without_ends(text: &str, class: Class) -> &str
 
 /// Returns whether a text ends in a digit.
 #[inline(always)]
-pub fn ends_in_digit(text: &str) -> bool
+pub(crate) fn ends_in_digit(text: &str) -> bool
     ensures { IsTrue result → EndsInDigit text.now }
 {
     match text.as_bytes().split_last() {

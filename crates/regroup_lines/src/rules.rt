@@ -47,7 +47,7 @@ pub enum Quoting {
     Keep,
     /// Only those that need them.
     Necessary,
-    /// None: of a field its number alone is written, without what is around it, and nothing of a field without one.
+    /// None, and of each field its number alone is written, without what is around it. A field without one is empty.
     Bare,
 }
 

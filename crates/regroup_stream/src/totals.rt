@@ -32,12 +32,14 @@ const TOO_LARGE: &str = "regroup-lines: a sum has more than 128 bits\n";
 /// [`run_all`](crate::run_all) and of that line.
 ///
 /// `log` receives the numbers that are added, a line for each line that is valid: it has to hold no byte before, and
-/// [`NoLog`](crate::NoLog) drops them. `err` receives the messages of `run_all`. Invalid lines are sent to `rejects`
-/// if they do not end the run, and headers nowhere. The fields are those of [`Span::Fields`], and lines end with a
-/// newline or NUL. Nothing is sent to `out`:
+/// [`NoLog`](crate::NoLog) drops them. The contract says whose sums are written where the log keeps them: with `NoLog`
+/// the same code runs, and the contract says nothing of the sums. `err` receives the messages of `run_all`. Invalid
+/// lines are sent to `rejects` if they do not end the run, and headers nowhere. The fields are those of
+/// [`Span::Fields`], and lines end with a newline or NUL. Nothing is sent to `out`:
 ///
 /// - where not all lines of each input were taken, as where one cannot be opened;
-/// - where a sum has more than 128 bits: a message says so, and the status is [`FAULTY`](crate::FAULTY);
+/// - where a sum, also that of the lines so far, has more than 128 bits with all its decimals: a message says so, and
+///   the status is [`FAULTY`](crate::FAULTY);
 /// - where no line has a number. A field without one is empty beside others.
 pub fn sum_all<I: Open, L: Log + Drop, O: Write + Drop, E: Write, X: Write + Drop>(
     alloc: Global,
