@@ -25,7 +25,7 @@ use Rattle.num_format_cldr.proofs.Rising.{rises, Rises-from_test}
 use Rattle.num_format_locale.specs.Lookup.{IsLongestMatch, IsPosix, IsSameIgnoringCase, LooksUpTag, Matches, ends_language, language_of}
 use Rattle.num_format_locale.specs.Names.{name_of}
 use Rattle.num_format_locale.specs.Search.{hyphen_for_underscore, hyphened}
-use Rattle.num_format_locale.proofs.NameLemmas.{length-table_names, name_at, places_compare}
+use Rattle.num_format_locale.proofs.NameLemmas.{length-table_names, name_at}
 use Rattle.num_format_locale.proofs.SearchLemmas.{same_text}
 
 -- a text in lower case
@@ -46,14 +46,6 @@ lower_name_at place within = get_or-map lower table_names place [] [] (omega (ar
 pub lower_names_pass : rises lower_names ≡ true
 unfolding encode families members table_names
 lower_names_pass = refl
-
--- so places compare as the names do in lower case
-pub lower_order : (p q : ℕ) → p < LEN → q < LEN → slice_cmp nat_cmp (lower (name_of p)) (lower (name_of q)) ≡ nat_cmp p q
-lower_order p q within_p within_q =
-    ap (λ a. slice_cmp nat_cmp a (lower (name_of q))) (sym (lower_name_at p within_p))
-    ∙ ap (slice_cmp nat_cmp (slice_index_or lower_names p [])) (sym (lower_name_at q within_q))
-    ∙ places_compare lower_names (Rises-from_test lower_names lower_names_pass) p q (omega (arith, length-lower_names))
-    (omega (arith, length-lower_names))
 
 lower_rises : (p q : ℕ) → p < q → q < LEN → slice_cmp nat_cmp (lower (name_of p)) (lower (name_of q)) ≡ Less
 lower_rises p q before within =
@@ -174,10 +166,6 @@ pub record IsLeft (language : List ℕ) (end : ℕ) : Type 0 where
   pub within : end ≤ length language
   pub ends : Ends language end
   pub longer : (other place : ℕ) → place < LEN → IsBeginning language (name_of place) other → other ≤ end
-
--- at first this is the whole language
-pub all_left : (language : List ℕ) → IsLeft language (length language)
-all_left language = record { within = omega arith; ends = inl refl; longer = λ other place bound so. so.within }
 
 module _ (language : List ℕ) (end : ℕ) (left : IsLeft language end) where
   -- a beginning that is a name, is the longest match

@@ -16,7 +16,7 @@ use Rattle.std.proofs.lemmas.Str.{chars-encodes, encode_ascii, inside_one}
 use Rattle.num_format_int.specs.Digits.{digits}
 use Rattle.num_format_parsing.specs.Reading.{text_digits}
 use Rattle.num_format_int.proofs.DigitLemmas.{digits-more, digits-small}
-use Rattle.num_format_parsing.proofs.ReadingLemmas.{digits_among-first, is_ascii_digit-digit}
+use Rattle.num_format_parsing.proofs.ReadingLemmas.{digits_among-first}
 use Rattle.num_format_parsing.specs.Shapes.{byte_digits, BeginsWithDigit}
 
 -- a digit as a character, and back
@@ -139,7 +139,3 @@ begins-at t i inside digit other =
       small = grind (arith, nat_tests);
       same = drop_more t i 0 inside ∙ ap (λ c. c ∷ drop (i + 1) t) (sym same);
     }
-
--- the first byte of bytes that begin with a digit other than zero
-pub begin-digit : (t : List ℕ) → BeginsWithDigit t → is_ascii_digit (get_or t 0 0) ≡ true
-begin-digit t begin = ap (λ xs. is_ascii_digit (get_or xs 0 0)) begin.same ∙ is_ascii_digit-digit begin.digit begin.small

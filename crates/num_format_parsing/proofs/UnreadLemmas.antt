@@ -5,15 +5,14 @@ use Rattle.std.specs.Prelude.{if◌then◌else◌, nat_eq, All}
 use Rattle.std.specs.Char.{is_ascii_digit}
 use Rattle.std.specs.List.{starts_with}
 use Rattle.std.proofs.lemmas.Bool.{cases_Bool, both_ways, false_from_ne_true}
-use Rattle.std.proofs.lemmas.Bool.Decides.{nat_tests, Decides-eqb}
-use Rattle.std.proofs.lemmas.List.{drop_at, drop_more}
+use Rattle.std.proofs.lemmas.Bool.Decides.{Decides-eqb}
+use Rattle.std.proofs.lemmas.List.{drop_at}
 use Rattle.std.proofs.lemmas.List.Elements.{All-head, All-tail}
 use Rattle.std.proofs.lemmas.Slice.Eq.{starts_is}
 use Rattle.num_format_int.specs.Grouped.{separated}
 use Rattle.num_format_parsing.specs.Strict.{unread, begins}
 use Rattle.num_format_parsing.specs.Shapes.{byte_digits}
 use Rattle.num_format_parsing.proofs.DigitLemmas.{text_digits-digit}
-use Rattle.num_format_parsing.proofs.NumberLemmas.{one-byte}
 use Rattle.num_format_parsing.proofs.ReadingLemmas.{is_ascii_digit-digit}
 
 unread-skip : (s : List ℕ) (k : ℕ) (t : List ℕ) → unread s k t ≡ unread s 0 (drop k t)
@@ -52,28 +51,7 @@ begins-split (c ∷ s) t begin = (starts_is Decides-eqb t (c ∷ s) (starts_with
 pub begins-append : (s t rest : List ℕ) → 0 < length s → t ≡ s ++ rest → begins s t ≡ true
 begins-append s t rest some same = begins-given s t some ∙ (starts_is Decides-eqb t s (starts_with nat_eq t s) refl).1 rest same
 
--- as one of one byte, which is the first
-pub begins-one : (s t : List ℕ) → length s ≡ 1 → 0 < length t → get_or t 0 0 ≡ get_or s 0 0 → begins s t ≡ true
-begins-one s t one some same =
-    begins-append s t (drop 1 t) (omega (arith, one)) (drop_more t 0 0 some ∙ ap (λ b. b ∷ drop 1 t) same
-    ∙ ap (λ x. x ++ drop 1 t) (sym (one-byte s one)))
-
--- a text begins with a byte if its first is the same
-pub starts-one : (s t : List ℕ) → length s ≡ 1 → 0 < length t → nat_eq (get_or t 0 0) (get_or s 0 0) ≡ starts_with nat_eq t s
-starts-one [] t one some = absurd (omega arith)
-starts-one (c ∷ d ∷ s) t one some = absurd (omega arith)
-starts-one (c ∷ []) t one some =
-    elim (cases_Bool (nat_eq (get_or t 0 0) c)) [
-      | inl same ↦ same ∙ sym (begins-one (c ∷ []) t refl some (grind (arith, nat_tests, same)))
-      | inr other ↦ other ∙ sym (begins-off (c ∷ []) t (λ same. both_ways _ other (grind (arith, nat_tests, same))))
-    ]
-
--- a separator that a text begins with is not empty
-pub begins-some : (s t : List ℕ) → begins s t ≡ true → 0 < length s
-begins-some [] t wrong = cc
-begins-some (c ∷ s) t begin = omega arith
-
--- so it is as long at least
+-- a text that begins with a separator is as long at least
 pub begins-fits : (s t : List ℕ) → begins s t ≡ true → length s ≤ length t
 begins-fits s t begin = omega (arith, ap length (begins-split s t begin), length-append s (drop (length s) t))
 

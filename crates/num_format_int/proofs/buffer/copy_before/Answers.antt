@@ -34,8 +34,3 @@ returns-clause-utf8 c = λ boundary had.
           (c.args.place - length c.args.text.now) c.args.skipped c.requires.fits.1 (omega arith) c.requires.skipped,
     )
     (IsUtf8-append _ _ (IsUtf8-drop c.args.text.now c.args.skipped c.utf8.text boundary) (IsUtf8-had _ had)) ∣₁
-
-pub returns-clause-whole : goal.returns-clause-whole
-returns-clause-whole c =
-    let text : c.copy_bytes.new.target ≡ c.args.text.now = c.copy_bytes.ensures ∙ c.as_bytes.ensures.value in
-    rw text (written c.args.array.now c.args.text.now c.args.place (c.args.place - length c.args.text.now) c.requires.fits.1 (omega arith))

@@ -1,13 +1,7 @@
 use Rattle.std.proofs.Common.{◌%◌, ◌∙◌, length, ap, arith}
 use Rattle.num_format_int.proofs.DigitLemmas.{length-put_group}
-use Rattle.num_format_int.proofs.GroupLemmas.{one_more, none_put, group_fits, size_bounds}
+use Rattle.num_format_int.proofs.GroupLemmas.{one_more, group_fits, size_bounds}
 use Rattle.num_format_int.proofs.to_formatted_str.put_full_groups.Goals as goal
-
-pub loop-left-init : goal.loop-left-init
-loop-left-init g c = record {
-  prepends = none_put g.G.Groups.SIZE c.args.n c.args.separator.now (g.B.PutFront.held c.args.buffer.now);
-  fits = omega arith;
-}
 
 pub put_group-requires-clause-fits : goal.put_group-requires-clause-fits
 put_group-requires-clause-fits g c =

@@ -1,15 +1,7 @@
-use Rattle.std.proofs.Common.{◌≡◌, ℕ, ◌^◌, ◌<◌, ◌⊎◌, arith}
+use Rattle.std.proofs.Common.{◌<◌, arith}
 use Rattle.num_format_int.proofs.DigitLemmas.{digits_given}
 use Rattle.num_format_int.proofs.GroupLemmas.{all_digits, size_bounds}
 use Rattle.num_format_int.proofs.to_formatted_str.put_groups.Goals as goal
-
-at_most_four : (size base first : ℕ) → (size ≡ 2) ⊎ ((size ≡ 3) ⊎ (size ≡ 4)) → base ≡ 10 ^ size → first < base → first < 10000
-at_most_four size base first sizes power within = grind (arith, sizes, power)
-
-pub put_first_group-requires-clause-group : goal.put_first_group-requires-clause-group
-put_first_group-requires-clause-group g c =
-    at_most_four g.G.Groups.SIZE g.G.Groups.BASE c.put_full_groups-first.result g.met.G.Groups.size g.met.G.Groups.base
-    c.put_full_groups-first.ensures.first
 
 pub put_first_group-requires-clause-fits : goal.put_first_group-requires-clause-fits
 put_first_group-requires-clause-fits g c = omega (

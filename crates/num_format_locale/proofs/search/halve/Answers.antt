@@ -1,5 +1,5 @@
 use Rattle.std.proofs.Common.{refl, sym, rules}
-use Rattle.num_format_locale.proofs.SearchLemmas.{ends, ends_without, falls, rises, same_text}
+use Rattle.num_format_locale.proofs.SearchLemmas.{ends_without, falls, rises, same_text}
 use Rattle.num_format_locale.proofs.search.halve.Goals as goal
 
 pub loop-low-preserved-in-Less : goal.loop-low-preserved-in-Less
@@ -12,10 +12,6 @@ loop-low-preserved c =
 
 pub returns-in-Equal-clause-found : goal.returns-in-Equal-clause-found
 returns-in-Equal-clause-found c = (same_text _ _ (sym c.in-Equal.ensures), (c.loop-low.places.items, c.push.ensures.items))
-
-pub returns-in-Equal-clause-halved : goal.returns-in-Equal-clause-halved
-returns-in-Equal-clause-halved c =
-    rw c.push.ensures.items (ends _ _ _ _ _ c.loop-low.invariant c.loop-low-test.true refl (sym c.in-Equal.ensures))
 
 pub returns-clause-halved : goal.returns-clause-halved
 returns-clause-halved c = ends_without _ _ _ _ c.loop-low.invariant (search rules)

@@ -1,15 +1,9 @@
 use Rattle.std.proofs.Common.{arith}
 use Rattle.num_format_locale.specs.Names.{name_of}
-use Rattle.num_format_locale.proofs.PairLemmas.{long, of_pair}
+use Rattle.num_format_locale.proofs.PairLemmas.{of_pair}
 use Rattle.num_format_locale.proofs.search.narrowed.Goals as goal
 use Rattle.num_format_locale.proofs.search.narrowed.Goals.{then-not-is_ascii_lowercase-via-then-not-is_ascii_lowercase}
 use Rattle.num_format_locale.proofs.search.narrowed.Goals.{then-not-is_ascii_lowercase-via-else-not-is_ascii_lowercase+then-not-is_ascii_lowercase-2}
-
-pub returns-in_default-clause-kept : goal.returns-in_default-clause-kept
-returns-in_default-clause-kept c = λ place within same.
-    let so = c.first_places-places.ensures.listed place within in
-    let bytes = long _ place c.args.text.now (name_of place) so same in
-    absurd (omega (arith, c.in_default.len_below))
 
 pub returns-then-not-is_ascii_lowercase-clause-kept : goal.returns-then-not-is_ascii_lowercase-clause-kept
 returns-then-not-is_ascii_lowercase-clause-kept c = λ place within same.

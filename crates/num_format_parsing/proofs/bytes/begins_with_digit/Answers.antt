@@ -1,14 +1,7 @@
-use Rattle.std.proofs.Common.{◌≡◌, ◌<◌, ◌∙◌, true, false, ap, get_or, length, sym, arith}
-use Rattle.std.proofs.lemmas.Bool.{both_ways}
+use Rattle.std.proofs.Common.{◌≡◌, ◌<◌, ◌∙◌, ap, get_or, length, sym, arith}
 use Rattle.std.proofs.lemmas.Bool.Decides.{nat_tests}
-use Rattle.num_format_parsing.proofs.DigitLemmas.{begins-at, begin-digit}
+use Rattle.num_format_parsing.proofs.DigitLemmas.{begins-at}
 use Rattle.num_format_parsing.proofs.bytes.begins_with_digit.Goals as goal
-
-pub returns-then-is_empty : goal.returns-then-is_empty
-returns-then-is_empty c =
-    let empty = sym c.is_empty.ensures ∙ c.if-is_empty.true in
-    let none : length c.args.text.now ≡ 0 = grind (arith, nat_tests, empty) in
-    (λ test. absurd (let w : false ≡ true = test in cc), λ begin. absurd (omega (arith, none, ap length begin.same)))
 
 pub returns-then-is_ascii_digit : goal.returns-then-is_ascii_digit
 returns-then-is_ascii_digit c =
@@ -19,9 +12,3 @@ returns-then-is_ascii_digit c =
       λ begin. let other : ¬ (get_or c.args.text.now 0 0 ≡ 48) =
           (λ same. omega (arith, ap (λ xs. get_or xs 0 0) begin.same, same, begin.some)) in grind (arith, nat_tests, other),
     )
-
-pub returns-else-is_ascii_digit : goal.returns-else-is_ascii_digit
-returns-else-is_ascii_digit c = (
-  λ test. absurd (both_ways _ c.if-is_ascii_digit.false test),
-  λ begin. absurd (both_ways _ (sym c.is_ascii_digit.ensures.value ∙ c.if-is_ascii_digit.false) (begin-digit c.args.text.now begin)),
-)

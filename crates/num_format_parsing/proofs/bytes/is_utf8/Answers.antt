@@ -3,9 +3,6 @@ use Rattle.std.proofs.lemmas.Str.{IsUtf8-from_ascii}
 use Rattle.num_format_parsing.proofs.NumberLemmas.{ascii-all}
 use Rattle.num_format_parsing.proofs.bytes.is_utf8.Goals as goal
 
-pub returns-then-is_text : goal.returns-then-is_text
-returns-then-is_text c = (λ _. c.requires c.if-is_text.true, λ _. refl)
-
 pub returns-then-is_ascii : goal.returns-then-is_ascii
 returns-then-is_ascii c =
     let all = sym c.is_ascii.ensures ∙ c.if-is_ascii.true in

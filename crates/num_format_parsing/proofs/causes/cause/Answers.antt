@@ -1,5 +1,4 @@
 use Rattle.std.proofs.Common.{◌≡◌, ℕ, List, ◌∙◌, ap, sym, drop, IsUtf8}
-use Rattle.std.proofs.lemmas.Bool.{both_ways}
 use Rattle.std.proofs.lemmas.List.{drop_all}
 use Rattle.num_format_text.specs.Format.{FormatData}
 use Rattle.num_format_int.specs.Grouped.{printed_separator}
@@ -11,19 +10,6 @@ rest-at : (f : FormatData) (s t : List ℕ) (start at : ℕ) → s ≡ printed_s
     → unread s 0 (drop start t) ≡ drop at t → unexpected f t ≡ drop at t
 rest-at f s t start at separator long rest = ap (λ k. unread (printed_separator f.grouping f.separator) 0 (drop k t)) (sym long)
     ∙ ap (λ x. unread x 0 (drop start t)) (sym separator) ∙ rest
-
-pub returns-then-not-is_utf8 : goal.returns-then-not-is_utf8
-returns-then-not-is_utf8 c = λ f symbols separator start none k. (
-  symbols.unambiguous,
-  λ utf8. both_ways _ c.if-not-is_utf8.true (c.is_utf8.ensures.1 utf8),
-)
-
-pub returns-then-at-bytes : goal.returns-then-at-bytes
-returns-then-at-bytes c = λ f symbols separator start none k.
-    let rest =
-    rest-at f c.args.separator.now c.args.bytes.now c.args.start c.expected_end-at.result separator start c.expected_end-at.ensures.rest
-    in
-    (symbols.unambiguous, record { utf8 = c.is_utf8.ensures.0 c.if-not-is_utf8.false; inside = c.if-at-bytes.true; rest = rest })
 
 pub returns-then-not-has_digit : goal.returns-then-not-has_digit
 returns-then-not-has_digit c = λ f symbols separator start none k.

@@ -1,18 +1,8 @@
 use Rattle.std.proofs.Common.{◌≡◌, ◌∙◌, true, sym, get_or, refl}
 use Rattle.std.specs.Char.{is_ascii_digit}
-use Rattle.std.proofs.Math.Nat.{zero-mod}
 use Rattle.std.proofs.lemmas.List.Folds.{list_all_more}
 use Rattle.num_format_parsing.proofs.GroupsLemmas.{digit-appended}
 use Rattle.num_format_parsing.proofs.groups.read_digits.Goals as goal
-
-pub loop-digit_count-init : goal.loop-digit_count-init
-loop-digit_count-init g c = record {
-  digits = refl;
-  read = record {
-    digit_count = refl;
-    number = c.zero-magnitude.ensures ∙ sym (zero-mod g.A.Accumulator.bound);
-  };
-}
 
 pub loop-digit_count-preserved : goal.loop-digit_count-preserved
 loop-digit_count-preserved g c =

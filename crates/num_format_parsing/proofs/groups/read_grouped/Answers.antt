@@ -2,7 +2,7 @@ use Rattle.std.proofs.Common.{◌≡◌, ◌<◌, ◌≤◌, ◌∙◌, length, 
 use Rattle.std.proofs.lemmas.Bool.Decides.{nat_tests}
 use Rattle.num_format_int.proofs.GroupedLemmas.{grouped-empty, grouped-none}
 use Rattle.num_format_parsing.specs.Shapes.{byte_digits}
-use Rattle.num_format_parsing.proofs.GroupingLemmas.{body-groups, lacks-digits, lacks-groups, lacks-separator, shape-bounds}
+use Rattle.num_format_parsing.proofs.GroupingLemmas.{body-groups, lacks-digits, lacks-groups, lacks-separator}
 use Rattle.num_format_parsing.proofs.groups.read_grouped.Goals as goal
 
 pub returns-then-is_empty-clause-none : goal.returns-then-is_empty-clause-none
@@ -12,9 +12,6 @@ returns-then-is_empty-clause-none g c = λ zero.
     let none : length a.separator.now ≡ 0 = grind (arith, nat_tests, empty) in
     lacks-separator a.grouping a.separator.now a.text.now a.first.digit_count c.requires.begin
     (grouped-empty a.grouping a.separator.now (byte_digits a.text.now) none)
-
-pub read_by_sizes-requires-clause-size : goal.read_by_sizes-requires-clause-size
-read_by_sizes-requires-clause-size g c = shape-bounds c.in-Some.sizes c.in-Some.ensures.shape
 
 pub returns-in_default-clause-none : goal.returns-in_default-clause-none
 returns-in_default-clause-none g c = λ zero.

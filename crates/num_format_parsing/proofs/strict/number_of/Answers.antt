@@ -1,14 +1,8 @@
-use Rattle.std.proofs.Common.{◌∙◌, subst, sym}
-use Rattle.num_format_int.specs.Kind.{IsValueOf, signed_number}
-use Rattle.num_format_parsing.specs.Strict.{IsCanonical}
+use Rattle.std.proofs.Common.{◌∙◌, sym}
+use Rattle.num_format_int.specs.Kind.{signed_number}
 use Rattle.num_format_parsing.proofs.CauseLemmas.{sign-kind}
 use Rattle.num_format_parsing.proofs.CanonicalLemmas.{body-told}
 use Rattle.num_format_parsing.proofs.strict.number_of.Goals as goal
-
-pub returns-in-Some : goal.returns-in-Some
-returns-in-Some g c = λ f t sign is_canonical.
-    let same = sym c.in-Some.ensures.value.1 in
-    (subst (IsCanonical f t) same is_canonical, subst (IsValueOf g.N.Sealed.kind) same c.in-Some.ensures.value.0.value)
 
 pub returns-in-None : goal.returns-in-None
 returns-in-None g c = λ f t sign is_canonical.

@@ -1,4 +1,4 @@
-use Rattle.std.proofs.Common.{sym, arith, inl, inr}
+use Rattle.std.proofs.Common.{sym, arith}
 use Rattle.num_format_int.proofs.GroupedLemmas.{separators-few, separators-many, separators-none}
 use Rattle.num_format_writers.proofs.formatted.separator_count.Goals as goal
 
@@ -8,14 +8,6 @@ returns-in_default-clause-value c = sym (separators-none c.args.grouping c.in_de
 pub returns-then-digits-sizes-clause-value : goal.returns-then-digits-sizes-clause-value
 returns-then-digits-sizes-clause-value c =
     sym (separators-few c.args.grouping c.in-Some.sizes c.in-Some.ensures c.args.digits c.if-digits-sizes.true)
-
-pub divide-requires : goal.divide-requires
-divide-requires c =
-    elim c.in-Some.ensures.shape [
-      | inl (last, size) ↦ (omega (arith, size), omega (arith, size))
-      | inr (inl (last, size)) ↦ (omega (arith, size), omega (arith, size))
-      | inr (inr (last, size)) ↦ (omega (arith, size), omega (arith, size))
-    ]
 
 pub returns-clause-value : goal.returns-clause-value
 returns-clause-value c =

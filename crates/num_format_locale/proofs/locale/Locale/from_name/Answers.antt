@@ -1,7 +1,6 @@
-use Rattle.std.proofs.Common.{subst, ℕ, ◌<◌}
-use Rattle.num_format_cldr.specs.declared.TheConstants.{LEN}
+use Rattle.std.proofs.Common.{subst}
 use Rattle.num_format_locale.specs.Names.{Spells, name_of}
-use Rattle.num_format_locale.proofs.SearchLemmas.{looked_up, refused}
+use Rattle.num_format_locale.proofs.SearchLemmas.{looked_up}
 use Rattle.num_format_locale.proofs.locale.Locale.from_name.Goals as goal
 
 pub returns-in-Some : goal.returns-in-Some
@@ -10,9 +9,3 @@ returns-in-Some c =
     let within = rw c.in-Some.is at c.find.ensures.within in
     rw c.at.ensures (looked_up c.args.name.now c.in-Some.place within (subst
     (λ text. Spells text (name_of c.in-Some.place)) c.as_bytes.ensures.value spelled))
-
-pub returns-in-None : goal.returns-in-None
-returns-in-None c =
-    let missing = rw c.in-None.is at c.find.ensures.missing in
-    refused c.args.name.now c.unknown_name.result (subst (λ text. (place : ℕ) → place < LEN
-    → ¬ Spells text (name_of place)) c.as_bytes.ensures.value missing) c.unknown_name.ensures

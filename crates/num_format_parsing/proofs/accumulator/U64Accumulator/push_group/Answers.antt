@@ -1,6 +1,0 @@
-use Rattle.std.proofs.Common.{◌*◌, ◌^◌}
-use Rattle.std.proofs.Math.Nat.{mod-add-mod}
-use Rattle.num_format_parsing.proofs.accumulator.U64Accumulator.push_group.Goals as goal
-
-pub returns : goal.returns
-returns c = mod-add-mod (c.args.self * c.args.power) (2 ^ 64) c.args.group
