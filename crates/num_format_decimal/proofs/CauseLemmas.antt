@@ -1,24 +1,30 @@
 -- At most one cause holds of a text, and none of a text that is parsed.
-use Rattle.std.proofs.Common.{◌≡◌, ℕ, ◌≤◌, List, length, drop, refl, ap, ◌∙◌, sym, arith, length-drop, subst, Ok, Err, IsUtf8}
+use Rattle.std.proofs.Common.{◌≡◌, ℕ, ◌≤◌, List, length, drop, refl, ap, ◌∙◌, sym, arith, length-drop, subst, Ok, Err, IsUtf8, ◌+◌, inl}
+use Rattle.std.proofs.Common.{inr, [], ◌∷◌, drop-drop, true}
 use Rattle.std.specs.Prelude.{Result, MatchResult}
 use Rattle.std.proofs.lemmas.List.{drop_all}
 use Rattle.num_format_text.specs.Format.{FormatData}
 use Rattle.num_format_decimal.specs.declared.decimal.TheConstants.{MAX_SCALE}
-use Rattle.num_format_decimal.specs.declared.error.DecimalError.{DecimalError}
-use Rattle.num_format_decimal.specs.declared.error.DecimalError.TheVariants as scale_error
-use Rattle.num_format_decimal.specs.declared.parsing.ParseAtScaleError.{ParseAtScaleError}
-use Rattle.num_format_decimal.specs.declared.parsing.ParseAtScaleError.TheVariants.{Parse, Rescale}
 use Rattle.num_format_parsing.specs.declared.error.StrictError.{StrictError}
-use Rattle.num_format_parsing.specs.declared.error.StrictError.TheVariants.{AmbiguousFormat, NotUtf8, Unexpected, NoDigit}
-use Rattle.num_format_parsing.specs.declared.error.StrictError.TheVariants.{TooManyDecimals, Misspelled, OutOfRange}
-use Rattle.num_format_decimal.specs.declared.rounding.Rounding.TheVariants.{Exact}
+use Rattle.num_format_parsing.specs.declared.error.StrictError.TheVariants.{NotUtf8, Unexpected, NoDigit, TooManyDecimals, Misspelled}
+use Rattle.num_format_parsing.specs.declared.error.StrictError.TheVariants.{OutOfRange}
 use Rattle.num_format_decimal.specs.FixedPoint.{FixedPoint}
 use Rattle.num_format_decimal.specs.Marks.{IsPlainFormat, MarksDecimals}
-use Rattle.num_format_decimal.specs.Parsing.{AtScaleResult, DecimalResult, DecimalStopsAt, IsAtScaleCause, IsDecimalCause}
-use Rattle.num_format_decimal.specs.Parsing.{IsExpectedDecimal, ParsesAtScale, ParsesDecimal, IsCanonicalDecimal, unexpected_in_decimal}
+use Rattle.num_format_decimal.specs.Parsing.{DecimalResult, IsDecimalCause, IsExpectedDecimal, ParsesDecimal, IsCanonicalDecimal}
+use Rattle.num_format_decimal.specs.Parsing.{unexpected_in_decimal, after_mark, DecimalStopsAt, IsNotCanonical}
 use Rattle.num_format_decimal.specs.Values.{HasUnits}
-use Rattle.num_format_decimal.specs.Rounded.{CanRescale, CannotRescale, rescaled}
 use Rattle.num_format_decimal.proofs.MarkLemmas.{canonical_once, tells-canonical_decimal}
+use Rattle.std.proofs.lemmas.Bool.{cases_Bool, cases_lt}
+use Rattle.num_format_int.specs.Grouped.{printed_separator}
+use Rattle.num_format_parsing.specs.Reading.{text_digits}
+use Rattle.num_format_parsing.specs.Strict.{begins, sign_len, unexpected}
+use Rattle.num_format_parsing.proofs.RefusalLemmas.{unread-place, utf8-or-not}
+use Rattle.num_format_decimal.specs.declared.parser.Fault.{Fault}
+use Rattle.num_format_decimal.specs.declared.parser.Fault.TheVariants.{TooLarge, NotCanonical}
+use Rattle.num_format_decimal.specs.Shapes.{HasReading}
+use Rattle.std.specs.List.{list_any}
+use Rattle.std.specs.Char.{is_ascii_digit}
+use Rattle.num_format_parsing.proofs.DigitLemmas.{text_digits-bytes, text_digits-some}
 
 stops-not : (f : FormatData) (t : List ℕ) (a : ℕ) → DecimalStopsAt f t a → IsExpectedDecimal f t → ⊥
 stops-not f t a stops expected = omega (arith, ap length (sym stops.rest ∙ expected.rest), length-drop a t, stops.inside)
@@ -31,6 +37,9 @@ pub expected_of : (f : FormatData) (t : List ℕ) (at : ℕ) → IsUtf8 t → ((
     → unexpected_in_decimal f t ≡ drop at t → length t ≤ at → IsExpectedDecimal f t
 expected_of f t at utf8 none rest all = record { is_not_canonical = record { utf8 = utf8; none = none }; rest = rest ∙ drop_all at t all }
 
+pub some_digit : (t : List ℕ) → IsUtf8 t → list_any is_ascii_digit t ≡ true → ¬ (text_digits t ≡ [])
+some_digit t utf8 any none = text_digits-some t any (sym (text_digits-bytes t utf8) ∙ none)
+
 -- a text that is canonical for a decimal is UTF-8, and is refused only if its units are no `i128`
 utf8-canonical : (f : FormatData) (t : List ℕ) (d : FixedPoint) → IsPlainFormat f → IsCanonicalDecimal f t d → IsUtf8 t
 utf8-canonical f t d plain is_canonical = (tells-canonical_decimal f t d.units d.scale plain is_canonical).utf8
@@ -38,48 +47,33 @@ utf8-canonical f t d plain is_canonical = (tells-canonical_decimal f t d.units d
 module _ (f : FormatData) (t : List ℕ) (plain : IsPlainFormat f) (marks : MarksDecimals f) where
   canonical_cause : (d : FixedPoint) (e : StrictError) → IsCanonicalDecimal f t d → d.scale ≤ MAX_SCALE → IsDecimalCause f t e
       → (e ≡ OutOfRange) × ¬ (HasUnits d)
-  canonical_cause d AmbiguousFormat is_canonical bound p = absurd (p marks)
-  canonical_cause d NotUtf8 is_canonical bound p = absurd (p.1 (utf8-canonical f t d plain is_canonical))
-  canonical_cause d (Unexpected a) is_canonical bound p = absurd (p.1.is_not_canonical.none d bound is_canonical)
-  canonical_cause d NoDigit is_canonical bound p = absurd (p.1.expected.is_not_canonical.none d bound is_canonical)
-  canonical_cause d TooManyDecimals is_canonical bound p = absurd (p.1.expected.is_not_canonical.none d bound is_canonical)
-  canonical_cause d Misspelled is_canonical bound p = absurd (p.1.expected.is_not_canonical.none d bound is_canonical)
-  canonical_cause d OutOfRange is_canonical bound p =
-      (refl, λ fits. p.1.wrong (subst HasUnits (canonical_once f t d p.1.decimal plain marks.apart is_canonical p.1.canonical) fits))
+  canonical_cause d e is_canonical bound p =
+      let utf8 = utf8-canonical f t d plain is_canonical in
+      let large : e ≡ OutOfRange = grind arith in
+      let cause = (rw large at p).1 in
+      (large, λ fits. cause.wrong (subst HasUnits (canonical_once f t d cause.decimal plain marks.apart is_canonical cause.canonical) fits))
 
   -- two causes of one refusal are the same
+  other_cause : ((a : ℕ) → DecimalStopsAt f t a → IsExpectedDecimal f t → ⊥) → ((a b : ℕ) → DecimalStopsAt f t a → DecimalStopsAt f t b
+      → a ≡ b) → (d e : StrictError) → ¬ (d ≡ OutOfRange) → ¬ (e ≡ OutOfRange) → IsDecimalCause f t d → IsDecimalCause f t e → d ≡ e
+  other_cause not once d e first second p q = grind (arith, not, once)
+
   only_cause : (d e : StrictError) → IsDecimalCause f t d → IsDecimalCause f t e → d ≡ e
-  only_cause AmbiguousFormat e p q = absurd (p marks)
   only_cause OutOfRange e p q = sym (canonical_cause p.1.decimal e p.1.canonical p.1.bound q).0
-  only_cause d AmbiguousFormat p q = absurd (q marks)
   only_cause d OutOfRange p q = (canonical_cause q.1.decimal d q.1.canonical q.1.bound p).0
-  only_cause NotUtf8 NotUtf8 p q = refl
-  only_cause NotUtf8 (Unexpected b) p q = absurd (p.1 q.1.is_not_canonical.utf8)
-  only_cause NotUtf8 e p q = absurd (p.1 q.1.expected.is_not_canonical.utf8)
-  only_cause (Unexpected a) (Unexpected b) p q = ap Unexpected (stops-once f t a b p.1 q.1)
-  only_cause (Unexpected a) NotUtf8 p q = absurd (q.1 p.1.is_not_canonical.utf8)
-  only_cause (Unexpected a) e p q = absurd (stops-not f t a p.1 q.1.expected)
-  only_cause d NotUtf8 p q = absurd (q.1 p.1.expected.is_not_canonical.utf8)
-  only_cause d (Unexpected b) p q = absurd (stops-not f t b q.1 p.1.expected)
-  only_cause NoDigit NoDigit p q = refl
-  only_cause NoDigit e p q = absurd (q.1.fault.0 p.1.fault)
-  only_cause d NoDigit p q = absurd (p.1.fault.0 q.1.fault)
-  only_cause TooManyDecimals TooManyDecimals p q = refl
-  only_cause TooManyDecimals Misspelled p q = absurd (omega (arith, p.1.fault.1, q.1.fault.1))
-  only_cause Misspelled TooManyDecimals p q = absurd (omega (arith, p.1.fault.1, q.1.fault.1))
-  only_cause Misspelled Misspelled p q = refl
+  only_cause d e p q = other_cause (stops-not f t) (stops-once f t) d e (λ same. cc) (λ same. cc) p q
 
   -- what is parsed, or refused for a cause, is what parsing returns
-  pub result-judged : (r : Result FixedPoint StrictError) → MatchResult r (λ d. ParsesDecimal f t d) (λ e. IsDecimalCause f t e)
+  pub result_judged : (r : Result FixedPoint StrictError) → MatchResult r (λ d. ParsesDecimal f t d) (λ e. IsDecimalCause f t e)
       → DecimalResult f t r
-  result-judged (Ok a) judged = record {
+  result_judged (Ok a) judged = record {
     decimal = λ d. (
       (λ same. let one : a ≡ d = cc in subst (ParsesDecimal f t) one judged),
       (λ parses. ap Ok (canonical_once f t a d plain marks.apart judged.canonical parses.canonical)),
     );
     refused = λ e. ((λ wrong. absurd (cc)), (λ cause. absurd ((canonical_cause a e judged.canonical judged.bound cause).1 judged.fits)));
   }
-  result-judged (Err d) judged = record {
+  result_judged (Err d) judged = record {
     decimal = λ a. ((λ wrong. absurd (cc)), (λ parses. absurd ((canonical_cause a d parses.canonical parses.bound judged).1 parses.fits)));
     refused = λ e. (
       (λ same. let error : d ≡ e = cc in subst (IsDecimalCause f t) error judged),
@@ -87,59 +81,49 @@ module _ (f : FormatData) (t : List ℕ) (plain : IsPlainFormat f) (marks : Mark
     );
   }
 
--- a decimal cannot be rescaled for one cause at most, and for none if it can
-one_refusal : (d : FixedPoint) (scale : ℕ) (a b : DecimalError) → CannotRescale Exact d scale a → CannotRescale Exact d scale b → a ≡ b
-one_refusal d scale scale_error.ScaleTooLarge scale_error.ScaleTooLarge p q = refl
-one_refusal d scale scale_error.ScaleTooLarge scale_error.DigitsLost p q = absurd (omega (arith, p, q.0))
-one_refusal d scale scale_error.ScaleTooLarge scale_error.OutOfRange p q = absurd (omega (arith, p, q.0))
-one_refusal d scale scale_error.DigitsLost scale_error.ScaleTooLarge p q = absurd (omega (arith, q, p.0))
-one_refusal d scale scale_error.DigitsLost scale_error.DigitsLost p q = refl
-one_refusal d scale scale_error.DigitsLost scale_error.OutOfRange p q = absurd (q.1 p.1)
-one_refusal d scale scale_error.OutOfRange scale_error.ScaleTooLarge p q = absurd (omega (arith, q, p.0))
-one_refusal d scale scale_error.OutOfRange scale_error.DigitsLost p q = absurd (p.1 q.1)
-one_refusal d scale scale_error.OutOfRange scale_error.OutOfRange p q = refl
+-- what is left unread is the end of a text
+unexpected-place : (f : FormatData) (t : List ℕ) → (n : ℕ) × (unexpected_in_decimal f t ≡ drop n t)
+unexpected-place f t =
+    let left = unread-place (printed_separator f.grouping f.separator) 0 (drop (sign_len f t) t) in
+    let at = sign_len f t + left.0 in
+    let whole : unexpected f t ≡ drop at t = left.1 ∙ drop-drop left.0 (sign_len f t) t in
+    let long = length f.decimal in
+    let rest = unread-place [] 0 (drop long (unexpected f t)) in
+    elim (cases_Bool (begins f.decimal (unexpected f t))) [
+      | inl begin ↦ (at + long + rest.0, rw begin (cc (rest.1, whole, drop-drop long at t, drop-drop rest.0 (at + long) t)))
+      | inr other ↦ (at, rw other whole)
+    ]
 
-no_refusal : (d : FixedPoint) (scale : ℕ) (e : DecimalError) → CanRescale Exact d scale → CannotRescale Exact d scale e → ⊥
-no_refusal d scale scale_error.ScaleTooLarge can cannot = omega (arith, can.bound, cannot)
-no_refusal d scale scale_error.DigitsLost can cannot = can.kept cannot.1
-no_refusal d scale scale_error.OutOfRange can cannot = cannot.2 can.fits
+module _ (f : FormatData) (t : List ℕ) (marks : MarksDecimals f) (none : (d : FixedPoint) → d.scale ≤ MAX_SCALE
+    → ¬ (IsCanonicalDecimal f t d)) where
+  by_digits : IsExpectedDecimal f t → (ds : List ℕ) → text_digits t ≡ ds → (e : StrictError) × IsDecimalCause f t e
+  by_digits expected [] empty = (NoDigit, (marks, record { expected = expected; fault = empty }))
+  by_digits expected (d ∷ ds) some =
+      let given : ¬ (text_digits t ≡ []) = λ empty. (let wrong = sym some ∙ empty in cc) in
+      elim (cases_lt MAX_SCALE (length (after_mark f t))) [
+        | inl many ↦ (TooManyDecimals, (marks, record { expected = expected; fault = (given, many) }))
+        | inr few ↦ (Misspelled, (marks, record { expected = expected; fault = (given, omega (arith, few)) }))
+      ]
 
--- of what parsing returns of a text, parsing at a scale returns one thing at most
-module _ (f : FormatData) (t : List ℕ) (scale : ℕ) (r : Result FixedPoint StrictError) (parsed : DecimalResult f t r) where
-  one_canonical : (a b : FixedPoint) → ParsesDecimal f t a → ParsesDecimal f t b → a ≡ b
-  one_canonical a b p q = let first = (parsed.decimal a).1 p in let second = (parsed.decimal b).1 q in cc
+  by_place : IsUtf8 t → (at : ℕ) → unexpected_in_decimal f t ≡ drop at t → (e : StrictError) × IsDecimalCause f t e
+  by_place utf8 at rest =
+      let not_canonical : IsNotCanonical f t = record { utf8 = utf8; none = none } in
+      elim (cases_lt at (length t)) [
+        | inl inside ↦ (Unexpected at, (marks, record { is_not_canonical = not_canonical; inside = inside; rest = rest }))
+        | inr outside ↦ by_digits (expected_of f t at utf8 none rest (omega (arith, outside))) (text_digits t) refl
+      ]
 
-  parses_or_not : (a : FixedPoint) (e : StrictError) → ParsesDecimal f t a → ¬ (IsDecimalCause f t e)
-  parses_or_not a e p q = let first = (parsed.decimal a).1 p in let second = (parsed.refused e).1 q in cc
+  not_canonical_cause : (e : StrictError) × IsDecimalCause f t e
+  not_canonical_cause =
+      elim (utf8-or-not t) [
+        | inl utf8 ↦ (let place = unexpected-place f t in by_place utf8 place.0 place.1)
+        | inr not ↦ (NotUtf8, (marks, not))
+      ]
 
-  parses_or_refused : (d : FixedPoint) (e : ParseAtScaleError) → ParsesAtScale f t scale d → ¬ (IsAtScaleCause f t scale e)
-  parses_or_refused d (Parse e) p cause = parses_or_not p.canonical e p.parses cause
-  parses_or_refused d (Rescale e) p cause = no_refusal p.canonical scale e p.can
-      (subst (λ z. CannotRescale Exact z scale e) (one_canonical cause.canonical p.canonical cause.parses p.parses) cause.cannot)
+pub cause-given : (f : FormatData) (t : List ℕ) → MarksDecimals f → (fault : Fault)
+    → HasReading f t (λ scale. scale ≤ MAX_SCALE) (Err fault) → (e : StrictError) × IsDecimalCause f t e
+cause-given f t marks TooLarge large = (OutOfRange, (marks, large))
+cause-given f t marks NotCanonical none = not_canonical_cause f t marks none
 
-  one_refused : (c e : ParseAtScaleError) → IsAtScaleCause f t scale c → IsAtScaleCause f t scale e → c ≡ e
-  one_refused (Parse c) (Parse e) p q = let first = (parsed.refused c).1 p in let second = (parsed.refused e).1 q
-      in (let one : c ≡ e = cc in ap Parse one)
-  one_refused (Parse c) (Rescale e) p q = absurd (parses_or_not q.canonical c q.parses p)
-  one_refused (Rescale c) (Parse e) p q = absurd (parses_or_not p.canonical e p.parses q)
-  one_refused (Rescale c) (Rescale e) p q =
-      ap Rescale (one_refusal p.canonical scale c e p.cannot (subst (λ z. CannotRescale Exact z scale e)
-      (one_canonical q.canonical p.canonical q.parses p.parses) q.cannot))
-
-  pub scaled-judged : (x : Result FixedPoint ParseAtScaleError) → MatchResult x (λ d. ParsesAtScale f t scale d)
-      (λ e. IsAtScaleCause f t scale e) → AtScaleResult f t scale x
-  scaled-judged (Ok d) judged = record {
-    decimal = λ y. (
-      (λ same. let one : d ≡ y = cc in subst (ParsesAtScale f t scale) one judged),
-      (λ p. ap Ok (judged.same ∙ ap (λ z. rescaled Exact z scale) (one_canonical judged.canonical p.canonical judged.parses p.parses)
-          ∙ sym p.same)),
-    );
-    refused = λ e. ((λ wrong. absurd (cc)), (λ cause. absurd (parses_or_refused d e judged cause)));
-  }
-  scaled-judged (Err c) judged = record {
-    decimal = λ y. ((λ wrong. absurd (cc)), (λ p. absurd (parses_or_refused y c p judged)));
-    refused = λ e. (
-      (λ same. let one : c ≡ e = cc in subst (IsAtScaleCause f t scale) one judged),
-      (λ cause. ap Err (one_refused c e judged cause)),
-    );
-  }
+-- for what parsing returns
+pub ruleset judging = (result_judged, cause-given)

@@ -1,31 +1,28 @@
 -- What a parser of decimals reads of a text, and what it leaves out.
 use Rattle.std.proofs.Common.{◌≡◌, ℕ, zero, suc, ◌+◌, ◌-◌, ◌*◌, ◌/◌, ◌^◌, ◌<◌, ◌≤◌, inl, inr, Bool, true, false, List, [], ◌∷◌, ◌++◌}
 use Rattle.std.proofs.Common.{length, take, drop, take-append-drop, drop-drop, refl, ap, ◌∙◌, sym, subst, arith, length-append, length-drop}
-use Rattle.std.proofs.Common.{IsUtf8, ℤ, pos, negsuc, unsigned_abs, Err, append-nil}
-use Rattle.std.specs.Prelude.{nat_eq, if◌then◌else◌, FitsSigned, Result, Ok}
+use Rattle.std.proofs.Common.{IsUtf8, ℤ, unsigned_abs, Err, append-nil, ◌⊎◌}
+use Rattle.std.specs.Prelude.{if◌then◌else◌, FitsSigned, Result, Ok}
 use Rattle.std.specs.Char.{is_ascii_digit}
 use Rattle.std.specs.Int.{is_negative, w128}
 use Rattle.std.specs.Int.Digits.{number_from_digits}
-use Rattle.std.specs.List.{list_all, starts_with}
-use Rattle.std.proofs.Math.Nat.{div-one}
-use Rattle.std.proofs.lemmas.Bool.{both_ways, cases_lt}
+use Rattle.std.specs.List.{list_all}
+use Rattle.std.proofs.lemmas.Bool.{cases_lt, both_ways}
 use Rattle.std.proofs.lemmas.Bool.Decides.{Decides-eqb}
 use Rattle.std.proofs.lemmas.Int.{ints}
 use Rattle.std.proofs.lemmas.List.{append_cancel_left, drop_at, take_rest}
 use Rattle.std.proofs.lemmas.Slice.Eq.{starts_is}
 use Rattle.num_format_text.specs.Format.{FormatData}
-use Rattle.num_format_text.proofs.SizesLemmas.{grouped_or_not}
 use Rattle.num_format_int.specs.Digits.{digits}
 use Rattle.num_format_int.specs.Grouped.{grouped, printed_separator}
 use Rattle.num_format_int.specs.Groups.{last_digits, plain}
-use Rattle.num_format_int.specs.Kind.{I128, IsValueOf, kind_of, signed_number}
-use Rattle.num_format_int.specs.Text.{body_of, text_of}
+use Rattle.num_format_int.specs.Kind.{signed_number}
 use Rattle.num_format_int.proofs.DigitLemmas.{digits-small}
 use Rattle.num_format_int.proofs.GroupedLemmas.{grouped-Posix, grouped-short}
 use Rattle.num_format_parsing.specs.Reading.{is_negative_text}
 use Rattle.num_format_parsing.specs.Shapes.{HasPlainSymbols, HasSign, byte_digits}
 use Rattle.num_format_parsing.specs.Strict.{IsUnambiguous, IsCanonical, begins, unexpected, ungrouped, with_separators, without_separators}
-use Rattle.num_format_parsing.proofs.CanonicalLemmas.{body-told, is_negative-pos, signed-abs, signed-sign, sign-behind, unexpected-none}
+use Rattle.num_format_parsing.proofs.CanonicalLemmas.{body-told, signed-abs, signed-sign, sign-behind, unexpected-none}
 use Rattle.num_format_certificates.proofs.RoundTripLemmas.{round_trips-from_unambiguous}
 use Rattle.num_format_decimal.specs.declared.parser.Fault.{Fault}
 use Rattle.num_format_decimal.specs.declared.parser.Fault.TheVariants.{TooLarge, NotCanonical}
@@ -37,9 +34,14 @@ use Rattle.num_format_decimal.specs.Shapes.{HasAmount, HasReading, IsAmount, IsC
 use Rattle.num_format_decimal.specs.Text.{mark_at}
 use Rattle.num_format_decimal.specs.Values.{HasUnits}
 use Rattle.num_format_decimal.proofs.MarkLemmas.{apart-printed, tail-cut, tail-signed, tells-signed, tells-canonical_decimal}
+use Rattle.num_format_decimal.proofs.MarkLemmas.{plain-from_marks}
 use Rattle.num_format_decimal.proofs.ScaleLemmas.{grown}
 use Rattle.num_format_decimal.proofs.CanonicalLemmas.{amount-before, ends-read, signed-canonical, canonical-signed}
 use Rattle.num_format_decimal.proofs.TextLemmas.{length-plain, mark-some}
+use Rattle.num_format_parsing.proofs.UnreadLemmas.{begins-append, begins-split}
+use Rattle.num_format_parsing.proofs.SymbolLemmas.{some_first}
+use Rattle.num_format_text.specs.declared.grouping.Grouping.{Grouping}
+use Rattle.num_format_text.specs.declared.grouping.Grouping.TheVariants.{Posix}
 
 -- a number is an amount
 pub amount_of : (f : FormatData) (t : List ℕ) (z : ℤ) → IsCanonical f t z → IsAmount f t (is_negative z) (unsigned_abs z)
@@ -50,37 +52,25 @@ pub signed_amount : (f : FormatData) (t : List ℕ) (b : Bool) (start n : ℕ) �
     → IsAmount f t b n
 signed_amount f t b start n sign is_canonical =
     let z = signed_number b n in
-    subst (λ c. IsAmount f t c n) (sym (body-told f t b start z sign is_canonical).sign)
-    (subst (λ j. IsAmount f t (is_negative z) j) (signed-abs b n) (amount_of f t z is_canonical))
+    rw (body-told f t b start z sign is_canonical).sign (rw (signed-abs b n) at (amount_of f t z is_canonical))
 
 pub plain_amount : (f : FormatData) (t : List ℕ) (b : Bool) (start n : ℕ) → HasSign f t b start → drop start t ≡ plain (digits n)
     → IsAmount f t b n
 plain_amount f t b start n sign same = record {
   grouping = (ungrouped f).grouping;
   either = inr refl;
-  text = sign-behind f t b start sign ∙ ap (λ xs. (if b then f.minus_sign else []) ++ xs) (same
-      ∙ sym (grouped-Posix f.separator (digits n)));
+  text = cc (sign-behind f t b start sign, grouped-Posix f.separator (digits n));
 }
 
 -- and an amount is a number, unless it is zero with a sign
 number_of : (f : FormatData) (t : List ℕ) (b : Bool) (n : ℕ) → (b ≡ true → 0 < n) → IsAmount f t b n → IsCanonical f t (signed_number b n)
 number_of f t b n some amount =
-    let sign : List ℕ = if b then f.minus_sign else [] in
     elim amount.either [
-      | inl same ↦ with_separators (amount.text ∙ ap (λ g. sign ++ grouped g f.separator (digits n)) same ∙ signed f)
-      | inr same ↦ without_separators (amount.text ∙ ap (λ g. sign ++ grouped g f.separator (digits n)) same ∙ signed (ungrouped f))
+      | inl same ↦ with_separators (cc (signed-sign b n some, signed-abs b n))
+      | inr same ↦ without_separators (cc (signed-sign b n some, signed-abs b n))
     ]
-  where
-    signed : (f : FormatData) → (if b then f.minus_sign else []) ++ body_of f n ≡ text_of f (signed_number b n)
-    signed f =
-        ap (λ (c : Bool). (if c then f.minus_sign else []) ++ body_of f n) (sym (signed-sign b n some))
-        ∙ ap (λ j. (if is_negative (signed_number b n) then f.minus_sign else []) ++ body_of f j) (sym (signed-abs b n))
 
 -- a text that is canonical for a decimal without decimals has no unexpected byte
-negative-some : (z : ℤ) → is_negative z ≡ true → 0 < unsigned_abs z / 10 ^ 0
-negative-some (pos n) wrong = absurd (both_ways _ (is_negative-pos n) wrong)
-negative-some (negsuc n) same = subst (λ k. 0 < k) (sym (div-one (suc n))) (omega arith)
-
 pub expected-whole : (f : FormatData) (t : List ℕ) (d : FixedPoint) → HasPlainSymbols f → d.scale ≡ 0 → IsCanonicalDecimal f t d
     → unexpected f t ≡ []
 expected-whole f t d symbols whole is_canonical =
@@ -88,7 +78,8 @@ expected-whole f t d symbols whole is_canonical =
     let n = unsigned_abs d.units / 10 ^ 0 in
     let signed = subst (IsSigned f t b (unsigned_abs d.units)) whole (signed-canonical f t d is_canonical) in
     unexpected-none f t (signed_number b n) symbols
-    (number_of f t b n (negative-some d.units) (subst (λ x. IsAmount f x b n) (sym (signed.text ∙ append-nil signed.whole)) signed.amount))
+    (number_of f t b n (λ negative. omega (arith, ints))
+    (subst (λ x. IsAmount f x b n) (sym (signed.text ∙ append-nil signed.whole)) signed.amount))
 
 -- a text that is canonical for no number, and is no zero with a sign, is no amount
 pub no_amount : (f : FormatData) (t : List ℕ) (b : Bool) (start : ℕ) → HasSign f t b start → ¬ (drop start t ≡ 48 ∷ [])
@@ -105,26 +96,11 @@ no_amount f t b start sign other none true zero amount =
     other (append_cancel_left minus _ _ (sym (sign-behind f t b start sign
     ∙ ap (λ (c : Bool). (if c then minus else []) ++ drop start t) negative) ∙ text))
 
-pub value-of_i128 : (z : ℤ) → FitsSigned w128 z → IsValueOf (kind_of I128) z
-value-of_i128 (pos n) fits = record { above = omega (arith, ints, fits.sfits); below = omega (arith, ints, fits.sfits); zero = λ h. refl }
-value-of_i128 (negsuc n) fits = record {
-  above = omega (arith, ints, fits.sfits);
-  below = omega (arith, ints, fits.sfits);
-  zero = λ h. refl;
-}
-
-begins_starts : (mark t : List ℕ) → begins mark t ≡ true → starts_with nat_eq t mark ≡ true
-begins_starts [] t wrong = cc
-begins_starts (b ∷ mark) t begin = begin
-
 -- what stands before a mark, the mark, and what follows
 pub mark_split : (mark t : List ℕ) (place end : ℕ) → begins mark (drop place t) ≡ true → place + length mark ≡ end
     → t ≡ take place t ++ (mark ++ drop end t)
 mark_split mark t place end begin after =
-    let found = (starts_is Decides-eqb (drop place t) mark (starts_with nat_eq (drop place t) mark) refl).0
-    (begins_starts mark (drop place t) begin) in
-    sym (take-append-drop place t) ∙ ap (λ xs. take place t ++ xs) (found
-    ∙ ap (λ xs. mark ++ xs) (drop-drop (length mark) place t ∙ ap (λ i. drop i t) after))
+    cc (take-append-drop place t, begins-split mark (drop place t) begin, drop-drop (length mark) place t)
 
 -- the mark stands before the decimals that a text has
 module _ (f : FormatData) (t : List ℕ) (d : FixedPoint) (p : IsPlainFormat f) (some : 0 < d.scale)
@@ -135,107 +111,94 @@ module _ (f : FormatData) (t : List ℕ) (d : FixedPoint) (p : IsPlainFormat f) 
   parts : (front : List ℕ) × (ds : List ℕ) × (length ds ≡ d.scale) × (t ≡ front ++ (f.decimal ++ ds))
   parts =
       let signed = signed-canonical f t d is_canonical in
-      let ds = plain (last_digits d.scale (unsigned_abs d.units)) in (
-        signed.whole,
-        ds,
-        length-plain d.scale (unsigned_abs d.units),
-        signed.text
-            ∙ ap (λ m. signed.whole ++ (m ++ ds)) (mark-some f d.scale some),
-      )
+      let ds = plain (last_digits d.scale (unsigned_abs d.units)) in
+      (signed.whole, ds, length-plain d.scale (unsigned_abs d.units), cc (signed.text, mark-some f d.scale some))
+
+  long : length parts.0 + length f.decimal + d.scale ≡ length t
+  long = omega (arith, ap length parts.3, length-append parts.0 (f.decimal ++ parts.1), length-append f.decimal parts.1, parts.2)
 
   pub mark_fits : length f.decimal + d.scale ≤ length t
-  mark_fits = omega (arith, ap length parts.3, length-append parts.0 (f.decimal ++ parts.1), length-append f.decimal parts.1, parts.2)
+  mark_fits = omega (arith, long)
 
   pub mark_there : (place : ℕ) → place + length f.decimal + d.scale ≡ length t → begins f.decimal (drop place t) ≡ true
   mark_there place all =
-      let long : length parts.0 ≡ place = omega (
-        arith,
-        ap length parts.3,
-        length-append parts.0 (f.decimal ++ parts.1),
-        length-append f.decimal parts.1,
-        parts.2,
-        all,
-      ) in
-      ap (begins f.decimal) (ap (drop place) parts.3 ∙ drop_at parts.0 (f.decimal ++ parts.1) place long)
-      ∙ begins_itself f.decimal parts.1 p.given
-    where
-      begins_itself : (mark rest : List ℕ) → ¬ (mark ≡ []) → begins mark (mark ++ rest) ≡ true
-      begins_itself [] rest given = absurd (given refl)
-      begins_itself (b ∷ mark) rest given =
-          (starts_is Decides-eqb (b ∷ (mark ++ rest)) (b ∷ mark) (starts_with nat_eq (b ∷ (mark ++ rest)) (b ∷ mark)) refl).1 rest refl
+      let front : length parts.0 ≡ place = omega (arith, long, all) in
+      begins-append f.decimal (drop place t) parts.1 (some_first f.decimal p.given)
+      (ap (drop place) parts.3 ∙ drop_at parts.0 (f.decimal ++ parts.1) place front)
 
--- what was read before a mark, and after it
-pub record HasParts (f : FormatData) (whole decimals : List ℕ) (negative : Bool) (n : ℕ) : Type 0 where
-  pub units : ℕ
-  pub amount : IsAmount f whole negative units
-  pub digits : list_all is_ascii_digit decimals ≡ true
-  pub few : length decimals ≤ MAX_SCALE
-  pub sum : n ≡ units * 10 ^ length decimals + number_from_digits 10 (byte_digits decimals)
+-- so no text is canonical for a decimal with decimals, if they are too few or too many, or the mark does not stand before them
+module _ (f : FormatData) (t : List ℕ) (count : ℕ) (p : IsPlainFormat f) (value : count ≡ tail_digits t) where
+  pub no_scale : (count ≡ 0) ⊎ (MAX_SCALE < count) → (d : FixedPoint) → 0 < d.scale → d.scale ≤ MAX_SCALE → ¬ (IsCanonicalDecimal f t d)
+  no_scale off d some few is_canonical = omega (arith, scale_counted f t d p some is_canonical)
+
+  pub no_room : length t < length f.decimal + count → (d : FixedPoint) → 0 < d.scale → d.scale ≤ MAX_SCALE → ¬ (IsCanonicalDecimal f t d)
+  no_room short d some few is_canonical =
+      omega (arith, scale_counted f t d p some is_canonical, mark_fits f t d p some is_canonical)
+
+  pub no_mark : (place : ℕ) → place + length f.decimal + count ≡ length t → begins f.decimal (drop place t) ≡ false → (d : FixedPoint)
+      → 0 < d.scale → d.scale ≤ MAX_SCALE → ¬ (IsCanonicalDecimal f t d)
+  no_mark place all other d some few is_canonical =
+      let counted = scale_counted f t d p some is_canonical in
+      both_ways _ other (mark_there f t d p some is_canonical place (omega (arith, counted, all)))
 
 -- a number that is no `i128` is none with decimals, and is not zero
 grows : (b : Bool) (m n : ℕ) → m ≤ n → ¬ (FitsSigned w128 (signed_number b m)) → ¬ (FitsSigned w128 (signed_number b n))
-grows false m n more wrong fits = wrong (record { sfits = omega (arith, fits.sfits, more) })
-grows true zero n more wrong fits = wrong (record { sfits = omega arith })
-grows true (suc m) zero more wrong fits = absurd (omega (arith, more))
-grows true (suc m) (suc n) more wrong fits = wrong (record { sfits = omega (arith, fits.sfits, more) })
+grows b m n more wrong fits = grind (arith, ints)
 
 some_large : (b : Bool) (n : ℕ) → ¬ (FitsSigned w128 (signed_number b n)) → b ≡ true → 0 < n
-some_large b (suc n) wrong negative = omega arith
-some_large b zero wrong negative =
-    absurd (wrong (subst (λ c. FitsSigned w128 (signed_number c 0)) (sym negative) (record { sfits = omega arith })))
+some_large b n wrong negative = grind (arith, ints)
 
-module _ (f : FormatData) (whole decimals : List ℕ) where
+module _ (f : FormatData) (whole decimals : List ℕ) (all : list_all is_ascii_digit decimals ≡ true)
+    (few : length decimals ≤ MAX_SCALE) where
+  -- the number that is written before the mark and after it
+  abbrev joined : ℕ → ℕ
+  joined units = units * 10 ^ length decimals + number_from_digits 10 (byte_digits decimals)
+
   abbrev text : List ℕ
   text = whole ++ (mark_at f (length decimals) ++ decimals)
 
-  parts_signed : (b : Bool) (n : ℕ) → HasParts f whole decimals b n → IsSigned f text b n (length decimals)
-  parts_signed b n has =
-      let read = ends-read decimals has.units n has.digits has.sum in
+  parts_signed : (b : Bool) (n units : ℕ) → IsAmount f whole b units → n ≡ joined units → IsSigned f text b n (length decimals)
+  parts_signed b n units amount sum =
+      let read = ends-read decimals units n all sum in
       record {
         whole = whole;
-        amount = subst (IsAmount f whole b) (sym read.whole) has.amount;
+        amount = rw read.whole amount;
         text = ap (λ ds. whole ++ (mark_at f (length decimals) ++ ds)) read.digits;
       }
 
-  pub parts_read : MarksDecimals f → (b : Bool) (n : ℕ) → HasParts f whole decimals b n → (b ≡ true → 0 < n) → (d : FixedPoint)
-      → d ≡ fixed_point (signed_number b n) (length decimals) → HasUnits d → ParsesDecimal f text d
-  parts_read marks b n has some d same fits = record {
+  pub parts_read : MarksDecimals f → (b : Bool) (n units : ℕ) → IsAmount f whole b units → n ≡ joined units → (b ≡ true → 0 < n)
+      → (d : FixedPoint) → d ≡ fixed_point (signed_number b n) (length decimals) → HasUnits d → ParsesDecimal f text d
+  parts_read marks b n units amount sum some d same fits = record {
     unambiguous = marks;
-    canonical = subst (IsCanonicalDecimal f text) (sym same) (canonical-signed f text b n (length decimals) some (parts_signed b n has));
-    bound = omega (arith, ap (λ x. x.scale) same, has.few);
+    canonical = rw same (canonical-signed f text b n (length decimals) some (parts_signed b n units amount sum));
+    bound = omega (arith, ap (λ x. x.scale) same, few);
     fits = fits;
   }
 
-  pub parts_large : (b : Bool) (n : ℕ) → HasParts f whole decimals b n → ¬ (FitsSigned w128 (signed_number b n))
+  pub parts_large : (b : Bool) (n units : ℕ) → IsAmount f whole b units → n ≡ joined units → ¬ (FitsSigned w128 (signed_number b n))
       → IsDecimalOutOfRange f text
-  parts_large b n has wrong = record {
+  parts_large b n units amount sum wrong = record {
     decimal = fixed_point (signed_number b n) (length decimals);
-    canonical = canonical-signed f text b n (length decimals) (some_large b n wrong) (parts_signed b n has);
-    bound = has.few;
+    canonical = canonical-signed f text b n (length decimals) (some_large b n wrong) (parts_signed b n units amount sum);
+    bound = few;
     wrong = wrong;
   }
 
   -- a sign before nothing but zeros
-  pub parts_zero : (n : ℕ) → HasParts f whole decimals true n → n ≡ 0 → IsPlainFormat f → (d : FixedPoint) → ¬ (IsCanonicalDecimal f text d)
-  parts_zero n has none p d is_canonical =
-      let zero_told = tells-signed f p text true n (length decimals) (parts_signed true n has) in
+  pub parts_zero : (n units : ℕ) → IsAmount f whole true units → n ≡ joined units → n ≡ 0 → IsPlainFormat f → (d : FixedPoint)
+      → ¬ (IsCanonicalDecimal f text d)
+  parts_zero n units amount sum none p d is_canonical =
+      let zero_told = tells-signed f p text true n (length decimals) (parts_signed true n units amount sum) in
       let told = tells-canonical_decimal f text d.units d.scale p is_canonical in
-      nothing_negative d.units (sym told.sign ∙ zero_told.sign) (sym told.magnitude ∙ zero_told.magnitude ∙ none)
-    where
-      nothing_negative : (z : ℤ) → is_negative z ≡ true → ¬ (unsigned_abs z ≡ 0)
-      nothing_negative (pos m) negative same = both_ways _ (is_negative-pos m) negative
-      nothing_negative (negsuc m) negative same = cc
+      omega (arith, ints, sym told.sign ∙ zero_told.sign, sym told.magnitude ∙ zero_told.magnitude)
 
   -- what is before the mark is no amount that is an `i128`
-  pub parts_fault : (fault : Fault) → list_all is_ascii_digit decimals ≡ true → length decimals ≤ MAX_SCALE → HasAmount f whole (Err fault)
-      → HasReading f text (λ scale. scale ≡ length decimals) (Err fault)
-  parts_fault TooLarge digits few large =
-      let b = large.0 in
-      let m = large.1 in
+  pub parts_fault : (fault : Fault) → HasAmount f whole (Err fault) → HasReading f text (λ scale. scale ≡ length decimals) (Err fault)
+  parts_fault TooLarge large =
       let q = number_from_digits 10 (byte_digits decimals) in
-      parts_large b (m * 10 ^ length decimals + q) (record { units = m; amount = large.2; digits = digits; few = few; sum = refl })
-      (grows b m (m * 10 ^ length decimals + q) (grown m (length decimals) q) large.3)
-  parts_fault NotCanonical digits few none = λ d long is_canonical.
+      parts_large large.0 (joined large.1) large.1 large.2 refl
+      (grows large.0 large.1 (joined large.1) (grown large.1 (length decimals) q) large.3)
+  parts_fault NotCanonical none = λ d long is_canonical.
       let n = unsigned_abs d.units in
       let signed = subst (IsSigned f text (is_negative d.units) n) long (signed-canonical f text d is_canonical) in
       none (is_negative d.units) (n / 10 ^ length decimals) (amount-before f whole decimals (is_negative d.units) n
@@ -247,28 +210,19 @@ pub reads_either : (f : FormatData) (t : List ℕ) (r : Result FixedPoint Fault)
     HasReading f t (λ scale. scale ≤ MAX_SCALE) r
 reads_either f t (Ok d) none read = read
 reads_either f t (Err TooLarge) none read = read
-reads_either f t (Err NotCanonical) none read = λ d few is_canonical. elim (cases_lt 0 d.scale) [
-  | inl some ↦ none d some few is_canonical
-  | inr zero_scale
-      ↦ read d (omega (arith, zero_scale)) is_canonical
-]
+reads_either f t (Err NotCanonical) none read = λ d few is_canonical.
+    elim (cases_lt 0 d.scale) [ inl some ↦ none d some few is_canonical | inr zero_scale ↦ read d (omega (arith, zero_scale)) is_canonical ]
 
 -- where the mark stands, the decimals are the digits after it
 module _ (f : FormatData) (t : List ℕ) (place end : ℕ) (cut : IsCut f.decimal t place end) where
   abbrev after : List ℕ
   after = take (length t - end) (drop end t)
 
-  pub cut_digits : list_all is_ascii_digit after ≡ true
-  cut_digits = ap (list_all is_ascii_digit) (take_rest t end) ∙ cut.digits
-
   pub cut_length : length after ≡ length t - end
   cut_length = ap length (take_rest t end) ∙ length-drop end t
 
   cut_text : take place t ++ (mark_at f (length after) ++ after) ≡ t
-  cut_text =
-      ap (λ m. take place t ++ (m ++ after)) (mark-some f (length after) (omega (arith, cut_length, cut.some)))
-      ∙ ap (λ xs. take place t ++ (f.decimal ++ xs)) (take_rest t end)
-      ∙ sym cut.text
+  cut_text = cc (mark-some f (length after) (omega (arith, cut_length, cut.some)), take_rest t end, cut.text)
 
   pub cut_reads : (r : Result FixedPoint Fault) → HasReading f (take place t ++ (mark_at f (length after) ++ after)) (λ scale. scale
       ≡ length after) r → HasReading f t (λ scale. scale ≡ length after) r
@@ -279,6 +233,16 @@ module _ (f : FormatData) (t : List ℕ) (place end : ℕ) (cut : IsCut f.decima
       scale_counted f t d p some is_canonical ∙ ap tail_digits cut.text ∙ tail-cut f (take place t) (drop end t) p cut.digits
       ∙ sym (ap length (take_rest t end))
 
+  -- so if what the mark cuts off is no decimal, another reading is what there is
+  pub cut_either : IsPlainFormat f → HasReading f (take place t ++ (mark_at f (length after) ++ after)) (λ scale. scale ≡ length after)
+      (Err NotCanonical) → (r : Result FixedPoint Fault) → HasReading f t (λ scale. scale ≡ 0) r
+      → HasReading f t (λ scale. scale ≤ MAX_SCALE) r
+  cut_either p none r read = reads_either f t r (λ d some few is_canonical.
+      cut_reads (Err NotCanonical) none d (cut_scale d p some is_canonical) is_canonical) read
+
+apart-separator : (mark s : List ℕ) (g : Grouping) → ¬ (mark ≡ printed_separator g s) → (g ≡ Posix) ⊎ (¬ (mark ≡ s))
+apart-separator mark s g apart = grind arith
+
 -- which formats mark decimals, by their symbols
 pub marks_from : (f : FormatData) → IsUtf8 f.minus_sign → IsUtf8 f.separator → IsUnambiguous f
     → IsMark f.decimal (printed_separator f.grouping f.separator) → MarksDecimals f
@@ -286,12 +250,19 @@ marks_from f sign separator plain mark = record {
   reads_back = round_trips-from_unambiguous f sign separator plain;
   given = mark.given;
   plain = mark.plain;
-  apart = elim (grouped_or_not f.grouping) [
-    | inl none ↦ inl none
-    | inr (sizes, by)
-        ↦ inr (λ same. mark.apart (same ∙ sym (by.printed f.separator)))
-  ];
+  apart = apart-separator f.decimal f.separator f.grouping mark.apart;
 }
 
 pub mark_from : (f : FormatData) → MarksDecimals f → IsMark f.decimal (printed_separator f.grouping f.separator)
 mark_from f marks = record { given = marks.given; plain = marks.plain; apart = apart-printed f marks.given marks.apart }
+
+-- for where a mark stands
+pub ruleset marking = (mark_split, take_rest)
+
+pub ruleset joining = (parts_fault, parts_large, parts_read)
+
+pub ruleset readings = (cut_either, reads_either)
+
+pub ruleset amounts = (plain_amount, take_rest)
+
+pub ruleset marks = (marks_from, plain-from_marks, mark_from)

@@ -48,7 +48,7 @@ impl Decimal {
     /// sign, or `None` if its units there are no `i128`.
     ///
     /// An absolute value of more than 128 bits is not needed: no sum with it is an `i128`.
-    #[tactic(auto, using(crate::proofs::SumLemmas::first_large, crate::proofs::SumLemmas::second_large, crate::proofs::SumLemmas::sum_too_large, crate::proofs::SumLemmas::sum_found))]
+    #[tactic(auto, using(crate::proofs::ScaleLemmas::sums))]
     fn checked_sum(self, other: Decimal, other_is_negative: bool) -> Option<Decimal>
         ensures { let sum = sum_with_sign self other other_is_negative in
             SomeIff result (HasUnits sum) sum }
@@ -74,7 +74,7 @@ fn larger_scale(a: &Decimal, b: &Decimal) -> u8
 
 /// Returns the sum of two numbers, each by its sign and its absolute value, or `None` if it takes more than 128
 /// bits besides the sign.
-#[tactic(auto, using(crate::proofs::SumLemmas::same_signs, crate::proofs::SumLemmas::other_signs, crate::proofs::SumLemmas::larger_second, crate::proofs::SumLemmas::both_large))]
+#[tactic(auto, using(crate::proofs::ScaleLemmas::signs))]
 fn signed_sum(is_negative: bool, x: u128, other_is_negative: bool, y: u128) -> Option<(bool, u128)>
     ensures { let sum = signed_number is_negative x +ℤ signed_number other_is_negative y in
         MatchOption result (¬ (FitsSigned w128 sum)) (λ s. signed_number s.0 s.1 ≡ sum) }

@@ -105,6 +105,7 @@ impl DecimalBuffer {
     /// ```rust
     /// DecimalBuffer::of(&Decimal::new(5, 1)?, &Locale::en).as_str()    // "0.5"
     /// ```
+    #[tactic(auto, using(crate::proofs::TextLemmas::buffers))]
     pub fn as_str(&self) -> &str
         ensures same { result.now ≡ self.now }
         ensures fits { length result.now ≤ MAX_DECIMAL_LEN }
@@ -126,6 +127,7 @@ impl DecimalBuffer {
 
     /// Prepends the text of a number without its sign to the empty text: the digits before the decimals, grouped as
     /// the format says, and if there are decimals the decimal mark and each of them.
+    #[tactic(auto, using(crate::proofs::TextLemmas::texts))]
     #[inline]
     fn put_unsigned<F: Format>(&mut self, d: &Decimal, format: &F)
         requires { self.old ≡ [] }
@@ -150,6 +152,7 @@ impl DecimalBuffer {
     }
 
     /// Prepends the same text of any number.
+    #[tactic(auto, using(crate::proofs::TextLemmas::wholes))]
     #[inline(never)]
     fn put_wide<F: Format>(&mut self, n: u128, scale: u8, format: &F)
         requires empty { self.old ≡ [] }
@@ -192,6 +195,7 @@ impl DecimalBuffer {
     }
 
     /// Prepends the same of a number that has no more than `count` digits.
+    #[tactic(auto, using(crate::proofs::PrintLemmas::wide))]
     fn put_wide_decimals<F: Format>(&mut self, n: u128, count: u8, format: &F)
         requires empty { self.old ≡ [] }
         requires count { count ≤ MAX_SCALE }
@@ -211,10 +215,12 @@ impl DecimalBuffer {
 
     /// Prepends the last `count` digits of `n`, leading zeros included, two at a time. Returns `n` without these
     /// digits.
+    #[tactic(auto, using(crate::proofs::PrintLemmas::printing))]
     #[inline(always)]
     fn put_last_digits(&mut self, n: u64, count: u8) -> u64
         requires { count + length self.old ≤ MAX_DECIMAL_LEN }
         ensures text { self.new ≡ plain (last_digits count n) ++ self.old }
+        ensures long { length self.new ≡ count + length self.old }
         ensures rest { result ≡ n / 10 ^ count }
     {
         // Most scales above zero are two, which takes no loop.
@@ -255,6 +261,7 @@ impl PutFront for DecimalBuffer {
 
     ghost CAPACITY = { MAX_DECIMAL_LEN };
 
+    #[tactic(auto, using(crate::proofs::TextLemmas::buffers))]
     #[inline(always)]
     fn put_front(&mut self, text: &str) {
         self.start = copy_before(text, 0, self.start, &mut self.inner);

@@ -15,7 +15,7 @@ impl Decimal {
     /// and by how many units of the largest scale it is above.
     ///
     /// In those units the value itself takes up to 254 bits, and each part fits 128.
-    #[tactic(auto, using(crate::proofs::PartLemmas::whole_found, crate::proofs::PartLemmas::rest_found, crate::proofs::PartLemmas::rest_small, crate::proofs::ScaleLemmas::power_nonzero, crate::proofs::ScaleLemmas::power_not_minus_one))]
+    #[tactic(auto, using(crate::proofs::PartLemmas::parts))]
     fn parts(&self) -> (i128, u128)
         ensures whole { result.0 ≡ whole_part self.now }
         ensures rest { result.1 ≡ rest_of self.now }

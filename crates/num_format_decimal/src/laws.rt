@@ -13,6 +13,7 @@ use num_format_certificates::laws::locale_round_trips;
 use num_format_locale::Locale;
 
 /// Decimals are in the order of their units, each times 10 to the power of the other's scale. So 1.50 equals 1.5.
+#[tactic(auto, using(crate::proofs::LawLemmas::order_law))]
 pub fn order()
     ensures { OrderLaw }
 {}
@@ -25,6 +26,7 @@ pub fn limits()
 
 /// No text of a decimal has more than 199 bytes. That of `i128::MIN` at scale 1 has as many where the grouping is
 /// Indian, and the separator, the minus sign and the decimal mark have 8 bytes each.
+#[tactic(auto, using(crate::proofs::LawLemmas::text_bound_law))]
 pub fn text_bound()
     ensures { TextBoundLaw }
 {}
@@ -36,6 +38,7 @@ pub fn rounding()
 {}
 
 /// Each locale marks decimals.
+#[tactic(auto, using(crate::proofs::LocaleMarkLemmas::entry_mark))]
 pub fn locale_marks(locale: Locale)
     ensures { MarksDecimals (locale_data locale) }
 {
@@ -46,6 +49,7 @@ pub fn locale_marks(locale: Locale)
 
 /// Where `,` is both the separator and the mark, under the mark `5`, and under an empty mark, with all else of
 /// `en`, two decimals have one text.
+#[tactic(auto, using(crate::proofs::LawLemmas::mark_needed_law))]
 pub fn mark_needed()
     ensures { MarkNeededLaw }
 {}

@@ -15,6 +15,7 @@ use num_format_writers::formatted::{digit_count, digits_size};
 /// ```rust
 /// text_len(&Decimal::new(-123450, 2)?, &Locale::de)    // 9, of -1.234,50
 /// ```
+#[tactic(auto, using(crate::proofs::TextLemmas::lengths))]
 pub fn text_len<F: Format>(number: &Decimal, format: &F) -> usize
     ensures length { result ≡ length (decimal_text (F.answers format.now) number.now) }
     ensures fits { result ≤ MAX_DECIMAL_LEN }
@@ -30,7 +31,7 @@ pub fn text_len<F: Format>(number: &Decimal, format: &F) -> usize
 }
 
 /// Returns how many digits a number has before its last `scale` digits, of which there is always one.
-#[tactic(auto, using(crate::proofs::LengthLemmas::digits_before, crate::proofs::LengthLemmas::digit_before))]
+#[tactic(auto, using(crate::proofs::TextLemmas::lengths))]
 fn whole_digits(n: u128, scale: u8) -> usize
     ensures value { result ≡ length (digits (n / 10 ^ scale)) }
     ensures bound { result ≤ 39 }

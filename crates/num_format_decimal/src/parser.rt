@@ -72,6 +72,7 @@ impl<'a, F: Format> DecimalParser<'a, F> {
     /// let format = CustomFormat::builder().decimal(",").build()?;
     /// DecimalParser::new(&format).err()    // Some(AmbiguousFormat): the separator is a comma too
     /// ```
+    #[tactic(auto, using(crate::proofs::ParserLemmas::marks))]
     #[inline(always)]
     pub fn new(format: &'a F) -> Result<DecimalParser<'a, F>, StrictError>
         ensures { MatchResult result
@@ -89,6 +90,7 @@ impl<'a, F: Format> DecimalParser<'a, F> {
     }
 
     /// Does the same where the strict parser under the format is known.
+    #[tactic(auto, using(crate::proofs::ParserLemmas::marks))]
     #[inline(always)]
     pub fn with_numbers(
         format: &'a F,
@@ -150,6 +152,7 @@ impl<'a, F: Format> DecimalParser<'a, F> {
     /// parser.decimal(b"1,234.50")    // Some(1234.50)
     /// parser.decimal(b"1,23.4")      // None
     /// ```
+    #[tactic(auto, using(crate::proofs::CauseLemmas::judging))]
     #[inline(always)]
     pub fn decimal(&self, bytes: &[u8]) -> Option<Decimal>
         ensures { MatchOption result ((e : StrictError) × DecimalResult self.now bytes.now (Err e))
@@ -205,6 +208,7 @@ impl<'a, F: Format> DecimalParser<'a, F> {
     /// Returns the decimal for which the text of the bytes is canonical, or the first cause for which it is refused.
     ///
     /// Where the caller knows that the bytes are UTF-8, that is not tested again.
+    #[tactic(auto, using(crate::proofs::CauseLemmas::judging))]
     #[inline(always)]
     fn parse_any(&self, text: &[u8], is_text: bool) -> Result<Decimal, StrictError>
         requires { IsTrue is_text → IsUtf8 text.now }
@@ -234,6 +238,7 @@ impl<'a, F: Format> DecimalParser<'a, F> {
     ///
     /// The digits at the end are its decimals if the mark stands before them. Where that is canonical for no decimal,
     /// the mark may be a part of the separator.
+    #[tactic(auto, using(crate::proofs::ParserLemmas::readings))]
     #[inline(always)]
     fn read(&self, text: &[u8]) -> Result<Decimal, Fault>
         ensures { HasReading self.now text.now (λ scale. scale ≤ MAX_SCALE) result }
@@ -268,6 +273,7 @@ impl<'a, F: Format> DecimalParser<'a, F> {
 
     /// Returns where the mark begins and ends that stands before the digits at the end of a text, if it does and they
     /// are no more than the largest scale.
+    #[tactic(auto, using(crate::proofs::ParserLemmas::marking))]
     #[inline(always)]
     fn mark_place(&self, text: &[u8]) -> Option<(usize, usize)>
         ensures { MatchOption result
@@ -288,6 +294,7 @@ impl<'a, F: Format> DecimalParser<'a, F> {
     }
 
     /// Returns the decimal for which the text before the mark and the decimals after it are canonical together.
+    #[tactic(auto, using(crate::proofs::ParserLemmas::joining))]
     #[inline(always)]
     fn read_parts(&self, whole: &[u8], decimals: &[u8]) -> Result<Decimal, Fault>
         requires digits { list_all is_ascii_digit decimals.now ≡ true }
@@ -323,6 +330,7 @@ impl<'a, F: Format> DecimalParser<'a, F> {
 
     /// Returns whether the whole number before a mark has a minus sign, and its absolute value. Only here can a zero
     /// have one.
+    #[tactic(auto, using(crate::proofs::ParserLemmas::amounts))]
     #[inline(always)]
     fn amount(&self, text: &[u8]) -> Result<(bool, u128), Fault>
         ensures { HasAmount self.now text.now result }

@@ -13,7 +13,7 @@ const TWO_TO_64: u128 = 1 << 64;
 const TWO_TO_32: u64 = 1 << 32;
 
 /// Returns 10 to the power of an exponent.
-#[tactic(auto, using(crate::proofs::ScaleLemmas::power_le, crate::proofs::ScaleLemmas::power_positive, crate::proofs::ScaleLemmas::power_parts))]
+#[tactic(auto, using(crate::proofs::ScaleLemmas::powers))]
 pub(crate) fn power_of_ten(exponent: u8) -> u128
     requires { exponent ≤ MAX_SCALE }
     ensures power { result ≡ 10 ^ exponent }
@@ -29,7 +29,7 @@ pub(crate) fn power_of_ten(exponent: u8) -> u128
 }
 
 /// Returns 10 to the power of an exponent, as a signed number.
-#[tactic(auto, using(crate::proofs::ScaleLemmas::power_as_signed, crate::proofs::ScaleLemmas::power_le, crate::proofs::ScaleLemmas::power_positive))]
+#[tactic(auto, using(crate::proofs::ScaleLemmas::powers))]
 pub(crate) fn signed_power_of_ten(exponent: u8) -> i128
     requires { exponent ≤ MAX_SCALE }
     ensures power { result ≡ pos (10 ^ exponent) }
@@ -94,7 +94,7 @@ fn divide_by<const BY: u64>(n: u128) -> (u128, u128)
 }
 
 /// Returns a number divided by another, and what is left, by one division.
-#[tactic(auto, using(crate::proofs::ScaleLemmas::quotient_times, crate::proofs::ScaleLemmas::less_quotient))]
+#[tactic(auto, using(crate::proofs::ScaleLemmas::quotient_times))]
 fn divide(n: u128, one: u128) -> (u128, u128)
     requires { 0 < one }
     ensures whole { result.0 ≡ n / one }

@@ -16,6 +16,7 @@ use crate::powers::narrow_power_of_ten;
 const SAFE_DIGITS: usize = 19;
 
 /// Returns the number of which a text is the digits alone, unless it has more than 19.
+#[tactic(auto, using(crate::proofs::ReadLemmas::reading))]
 #[inline(always)]
 pub(crate) fn whole_number(text: &[u8]) -> Option<u64>
     ensures { MatchOption result (¬ (text.now ≡ 48 ∷ [])) (λ n. text.now ≡ plain (digits n)) }
@@ -31,6 +32,7 @@ pub(crate) fn whole_number(text: &[u8]) -> Option<u64>
 
 /// Returns the number that the digits of a whole number and its decimals write together, or `None` if it takes more
 /// than 128 bits.
+#[tactic(auto, using(crate::proofs::ReadLemmas::reading))]
 #[inline(always)]
 pub(crate) fn joined(whole: u128, decimals: &[u8]) -> Option<u128>
     requires all { list_all is_ascii_digit decimals.now ≡ true }
@@ -67,6 +69,7 @@ fn append_digits(n: u128, digits: &[u8]) -> Option<u128>
 }
 
 /// Returns the number that digits write, or `None` if a byte is no digit.
+#[tactic(auto, using(crate::proofs::ReadLemmas::reading))]
 #[inline(always)]
 fn read_digits(text: &[u8]) -> Option<u64>
     requires { length text.now ≤ SAFE_DIGITS }
@@ -84,6 +87,7 @@ fn read_digits(text: &[u8]) -> Option<u64>
 }
 
 /// Returns how many digits stand at the end of a text.
+#[tactic(auto, using(crate::proofs::ReadLemmas::reading))]
 pub(crate) fn trailing_digits(text: &[u8]) -> usize
     ensures within { result ≤ length text.now }
     ensures digits { list_all is_ascii_digit (drop (length text.now - result) text.now) ≡ true }

@@ -39,7 +39,7 @@ impl Decimal {
     /// - [`DecimalError::ScaleTooLarge`]: the scale is larger than [`MAX_SCALE`].
     /// - [`DecimalError::DigitsLost`]: digits other than zero would be lost under [`Rounding::Exact`].
     /// - [`DecimalError::OutOfRange`]: the units at the scale are no `i128`.
-    #[tactic(auto, using(crate::proofs::ScaleLemmas::cannot_be_rescaled, crate::proofs::ScaleLemmas::is_rescaled, crate::proofs::ScaleLemmas::loses_digits, crate::proofs::ScaleLemmas::keeps_digits, crate::proofs::ScaleLemmas::can_be_rescaled, crate::proofs::ScaleLemmas::rescaled_too_large))]
+    #[tactic(auto, using(crate::proofs::ScaleLemmas::rescaling))]
     pub fn rescale(self, scale: u8, rounding: Rounding) -> Result<Decimal, DecimalError>
         ensures decimal { IfOk result (λ d. d ≡ rescaled rounding self scale) }
         ensures accepted { OnOk result (CanRescale rounding self scale) }

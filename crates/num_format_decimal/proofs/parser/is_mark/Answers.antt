@@ -1,17 +1,11 @@
-use Rattle.std.proofs.Common.{◌≡◌, ◌<◌, ◌∙◌, [], false, length, refl, ap, sym, arith, append-nil}
+use Rattle.std.proofs.Common.{◌≡◌, ◌<◌, ◌∙◌, [], length, ap, sym, arith, append-nil}
 use Rattle.std.proofs.lemmas.Bool.{both_ways}
 use Rattle.std.proofs.lemmas.Bool.Decides.{Decides-eqb, nat_tests}
-use Rattle.std.proofs.lemmas.List.{nil_from_length}
 use Rattle.std.proofs.lemmas.Slice.Eq.{slice_eq-Decides}
 use Rattle.num_format_parsing.proofs.UnreadLemmas.{begins-append}
 use Rattle.num_format_decimal.proofs.parser.is_mark.Goals as goal
 use Rattle.num_format_decimal.proofs.parser.is_mark.Goals.{else-begins_with-via-then-begins_with+else-eq}
 use Rattle.num_format_decimal.proofs.parser.is_mark.Goals.{else-begins_with-via-else-begins_with}
-
-pub returns-then-is_empty : goal.returns-then-is_empty
-returns-then-is_empty c =
-    let none : length c.args.mark.now ≡ 0 = grind (arith, nat_tests, c.is_empty.ensures, c.if-is_empty.true) in
-    (λ wrong. absurd (both_ways false refl wrong), λ m. absurd (m.given (nil_from_length c.args.mark.now none)))
 
 pub returns : goal.returns
 returns c =

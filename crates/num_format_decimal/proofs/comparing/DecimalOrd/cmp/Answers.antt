@@ -1,9 +1,6 @@
-use Rattle.std.proofs.Common.{◌∙◌}
-use Rattle.num_format_decimal.proofs.PartLemmas.{compared_by_parts}
+use Rattle.std.proofs.Common.{arith, rules}
+use Rattle.std.proofs.lemmas.Grind.{common_steps}
 use Rattle.num_format_decimal.proofs.comparing.DecimalOrd.cmp.Goals as goal
 
 pub returns : goal.returns
-returns c =
-    c.cmp.ensures
-    ∙ compared_by_parts c.args.self.now c.args.other.now _ _ _ _ c.parts-mine.ensures.whole c.parts-theirs.ensures.whole
-    c.parts-mine.ensures.rest c.parts-theirs.ensures.rest
+returns c = first_of (search rules, grind (arith, common_steps))

@@ -4,5 +4,4 @@ use Rattle.num_format_decimal.proofs.decimal.Decimal.rescale.Goals as goal
 
 pub returns-in_default-clause-refused : goal.returns-in_default-clause-refused
 returns-in_default-clause-refused c =
-    let large = cannot_be_rescaled c.args.rounding c.args.self c.args.scale c.in_default.ensures.bound c.in_default.ensures.magnitude in
-    (omega arith, large.0, large.1)
+    cannot_be_rescaled c.args.rounding c.args.self c.args.scale (omega arith) c.in_default.ensures.bound c.in_default.ensures.magnitude
