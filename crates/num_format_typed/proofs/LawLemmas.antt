@@ -10,7 +10,10 @@ use Rattle.num_format_decimal.specs.Parsing.{DecimalResult, ParsesDecimal}
 use Rattle.num_format_decimal.specs.declared.parsing.ParseAtScaleError.{ParseAtScaleError}
 use Rattle.num_format_decimal.specs.declared.parsing.ParseAtScaleError.TheVariants as at_scale
 use Rattle.num_format_parsing.specs.declared.error.StrictError.{StrictError}
-use Rattle.num_format_decimal.proofs.CauseLemmas.{scaled-judged}
+use Rattle.num_format_decimal.specs.Rounded.{CanRescale, CannotRescale}
+use Rattle.num_format_decimal.specs.declared.error.DecimalError.{DecimalError}
+use Rattle.num_format_decimal.specs.declared.error.DecimalError.TheVariants as rescale_error
+use Rattle.num_format_decimal.specs.declared.rounding.Rounding.TheVariants.{Exact}
 use Rattle.num_format_typed.proofs.CanonicalLemmas.{decimal-printed}
 use Rattle.num_format_typed.specs.Laws.{PrintedAtScaleLaw, PrintedDecimalLaw}
 use Rattle.num_format_typed.specs.Typed.{HasSymbols, IsPrinted, IsTypable, RescaleResult, TypedDecimalResult, TypedResult, at_any_scale}
@@ -77,6 +80,12 @@ printed-decimal f t d result symbols typable parses returned =
     let one : first.0 ≡ d = cc in
     first.1 ∙ ap Ok one
 
+-- a decimal that can be rescaled is refused for no cause
+never-refused : (d : FixedPoint) (scale : ℕ) (e : DecimalError) → CanRescale Exact d scale → CannotRescale Exact d scale e → ⊥
+never-refused d scale rescale_error.ScaleTooLarge can cannot = omega (arith, can.bound, cannot)
+never-refused d scale rescale_error.DigitsLost can cannot = can.kept cannot.1
+never-refused d scale rescale_error.OutOfRange can cannot = cannot.2 can.fits
+
 pub printed-at_scale : PrintedAtScaleLaw
 printed-at_scale f t scale d result symbols typable parses returned =
     let first = accepted-decimal f t parses.canonical returned.parsed symbols typable parses.parses returned.decimal in
@@ -86,12 +95,11 @@ printed-at_scale f t scale d result symbols typable parses returned =
     rescaled-only : (result : Result FixedPoint (TypedError ParseAtScaleError)) (y : FixedPoint) → DecimalResult f t (Ok y)
         → RescaleResult y scale result → result ≡ Ok d
     rescaled-only (Ok x) y accepted at =
-        let same = ((scaled-judged f t scale (Ok y) accepted (Ok x)
-        (record { canonical = y; parses = (accepted.decimal y).0 refl; can = at.0; same = at.1 })).decimal d).1 parses in
-        let one : x ≡ d = cc in ap Ok one
+        let again = (accepted.decimal parses.canonical).1 parses.parses in
+        let one : x ≡ d = cc (again, at.1, parses.same) in ap Ok one
     rescaled-only (Err (Number (at_scale.Rescale e))) y accepted at =
-        let wrong = ((scaled-judged f t scale (Ok y) accepted (Err (at_scale.Rescale e))
-        (record { canonical = y; parses = (accepted.decimal y).0 refl; cannot = at })).decimal d).1 parses in
-        absurd (cc)
+        let again = (accepted.decimal parses.canonical).1 parses.parses in
+        let one : parses.canonical ≡ y = cc again in
+        absurd (never-refused y scale e (subst (λ z. CanRescale Exact z scale) one parses.can) at)
     rescaled-only (Err (Number (at_scale.Parse e))) y accepted at = absurd at
     rescaled-only (Err TooLong) y accepted at = absurd at

@@ -1,5 +1,5 @@
 -- A printed text stands for itself: the minus sign of the format or none, and digits between which the format's own symbols stand.
-use Rattle.std.proofs.Common.{◌≡◌, ℕ, ◌-◌, inl, inr, Bool, true, false, ◌&&◌, List, [], ◌∷◌, ◌++◌}
+use Rattle.std.proofs.Common.{◌≡◌, ℕ, ◌-◌, inl, inr, Bool, true, false, List, [], ◌∷◌, ◌++◌}
 use Rattle.std.proofs.Common.{length, drop, refl, ap, ◌∙◌, sym, subst, append_assoc, map, filter, IsUtf8}
 use Rattle.std.specs.Prelude.{◌==◌, nat_eq}
 use Rattle.std.specs.Char.{is_ascii_digit}
@@ -15,9 +15,9 @@ use Rattle.std.proofs.lemmas.Str.{IsUtf8-append, chars-append, chars-encodes, ch
 use Rattle.std.proofs.lemmas.Str.{encode_ascii, encodes-append, encodes-chars, scalars-chars}
 use Rattle.num_format_text.specs.Format.{FormatData}
 use Rattle.num_format_typed.specs.Classes.{is_direction, is_of, is_space}
-use Rattle.num_format_typed.specs.Rewriting.{EndsInDigit, trim_end, trim_front, without_end, without_ends, without_front}
+use Rattle.num_format_typed.specs.Rewriting.{EndsInDigit, trim_end, trim_front, without_end, without_front}
 use Rattle.num_format_typed.specs.Typed.{IsTypable, begins_with, core_of, first_is, is_nonzero_digit, is_own}
-use Rattle.num_format_typed.specs.Typed.{IsPrinted, put, rewritten, separator_of, trimmed, typed_text}
+use Rattle.num_format_typed.specs.Typed.{put, separator_of, trimmed, typed_text}
 use Rattle.num_format_typed.specs.declared.classes.Class.{Class}
 use Rattle.num_format_typed.specs.declared.classes.Class.TheVariants.{Minus, Plus, Direction, End}
 use Rattle.num_format_typed.proofs.ClassLemmas.{of-digit}
@@ -63,66 +63,6 @@ scalars-parts (x ∷ xs) ys both =
 
 utf8-encoded : (cs : List ℕ) → scalars cs ≡ true → IsUtf8 (encode_utf8_all cs)
 utf8-encoded cs scalar = (cs, (scalar, refl))
-
--- what is trimmed is trimmed once
-front-stops : (p : ℕ → Bool) (c : ℕ) (cs : List ℕ) → p c ≡ false → trim_front p (c ∷ cs) ≡ c ∷ cs
-front-stops p c cs other = rw other refl
-
-front-kept : (p : ℕ → Bool) (cs : List ℕ) → trim_front p (trim_end p (trim_front p cs)) ≡ trim_end p (trim_front p cs)
-front-kept p [] = refl
-front-kept p (c ∷ cs) =
-    elim (cases_Bool (p c)) [
-      | inl passes ↦ rw passes (front-kept p cs)
-      | inr other ↦
-          let one = front-stops p c cs other in
-          let some : list_all p (c ∷ cs) ≡ false = ap (λ b. b && list_all p cs) other in
-          let ends : trim_end p (c ∷ cs) ≡ c ∷ trim_end p cs = rw some refl in
-          ap (λ l. trim_front p (trim_end p l)) one ∙ ap (trim_front p) ends ∙ front-stops p c (trim_end p cs) other ∙ sym ends
-          ∙ ap (trim_end p) (sym one)
-    ]
-
-ends-none : (p : ℕ → Bool) (cs : List ℕ) → list_all p cs ≡ false → list_all p (trim_end p cs) ≡ false
-ends-none p [] other = absurd (cc other)
-ends-none p (c ∷ cs) other =
-    elim (cases_Bool (p c)) [
-      | inl passes ↦
-          let later : list_all p cs ≡ false = ap (λ b. b && list_all p cs) (sym passes) ∙ other in
-          rw (other, passes) (ends-none p cs later)
-      | inr fails ↦ rw (other, fails) refl
-    ]
-
-end-kept : (p : ℕ → Bool) (cs : List ℕ) → trim_end p (trim_end p cs) ≡ trim_end p cs
-end-kept p [] = refl
-end-kept p (c ∷ cs) =
-    elim (cases_Bool (list_all p (c ∷ cs))) [
-      | inl all ↦ rw all refl
-      | inr other ↦
-          let kept : list_all p (c ∷ trim_end p cs) ≡ false = rw other at (ends-none p (c ∷ cs) other) in
-          rw (other, kept) (ap (λ l. c ∷ l) (end-kept p cs))
-    ]
-
-ends-chars : (p : ℕ → Bool) (cs : List ℕ) → scalars cs ≡ true
-    → without_ends p (encode_utf8_all cs) ≡ encode_utf8_all (trim_end p (trim_front p cs))
-ends-chars p cs scalar =
-    let front = front-split p cs in
-    let left = (scalars-parts front.0 (trim_front p cs) (subst (λ ds. scalars ds ≡ true) front.1 scalar)).1 in
-    ap (λ ds. without_end p (encode_utf8_all (trim_front p ds))) (chars-encodes cs scalar)
-    ∙ ap (λ ds. encode_utf8_all (trim_end p ds)) (chars-encodes (trim_front p cs) left)
-
-trimmed-once : (p : ℕ → Bool) (t : List ℕ) → IsUtf8 t → without_ends p (without_ends p t) ≡ without_ends p t
-trimmed-once p t utf8 =
-    let cs = chars t in
-    let front = front-split p cs in
-    let back = end-split p (trim_front p cs) in
-    let left = (scalars-parts front.0 (trim_front p cs) (subst (λ ds. scalars ds ≡ true) front.1 (scalars-chars t utf8))).1 in
-    let both = (scalars-parts (trim_end p (trim_front p cs)) back.0 (subst (λ ds. scalars ds ≡ true) back.1 left)).0 in
-    let once = ap (without_ends p) (sym (encodes-chars t utf8)) ∙ ends-chars p cs (scalars-chars t utf8) in
-    ap (without_ends p) once ∙ ends-chars p (trim_end p (trim_front p cs)) both
-    ∙ ap (λ ds. encode_utf8_all (trim_end p ds)) (front-kept p cs) ∙ ap encode_utf8_all (end-kept p (trim_front p cs)) ∙ sym once
-
--- a text that is printed once it is trimmed stands for what it then is
-pub trimmed-printed : (f : FormatData) (t : List ℕ) → IsUtf8 t → IsPrinted f (trimmed t) → typed_text f t ≡ trimmed t
-trimmed-printed f t utf8 printed = ap (rewritten f) (sym (trimmed-once (is_of End) t utf8)) ∙ printed.same
 
 -- a digit that is found
 digit-found : (xs ys : List ℕ) (d : ℕ) → is_ascii_digit d ≡ true → ¬ (map (λ c. c - 48) (filter is_ascii_digit (xs ++ (d ∷ ys))) ≡ [])

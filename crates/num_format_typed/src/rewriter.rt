@@ -1,5 +1,5 @@
 //! What is done with a text: it is rewritten with the symbols of the format, and parsed strictly. Most texts are as the
-//! format prints them, but for blanks at their ends, and stand for themselves: so these are parsed first as they are.
+//! format prints them, and stand for themselves: so those that begin and end like these are parsed as they are first.
 ghost use Rattle.std.specs.Prelude.{◌≡◌, ◌<◌, ◌≤◌, IfSome, MatchOption, MatchResult, Err, drop, length, nat_eq, true};
 ghost use Rattle.std.specs.Prelude.{false};
 ghost use Rattle.std.specs.List.{list_any, starts_with};
@@ -190,37 +190,34 @@ impl<'a, F: Format> Rewriter<'a, F> {
     {
         // The contract says what is known of the format.
         self.numbers();
-        match parser.number(bytes) {
-            Some(number) => Ok(number),
-            None => match text_of(bytes) {
-                Some(text) => Rewriter::parse_refused::<T, P>(self.format(), text),
-                None => Err(TypedError::Number(StrictError::NotUtf8)),
-            },
-        }
-    }
-
-    /// Returns the number that a text means, which strict parsing refuses as it stands. It makes a rewriter of its own,
-    /// so that the caller's stays in registers.
-    #[cold]
-    #[inline(never)]
-    fn parse_refused<T, P: Strict<'a, T, F>>(
-        format: &'a F,
-        text: &str,
-    ) -> Result<T, TypedError<StrictError>>
-        requires typable { IsTypable (F.answers format.now) }
-        requires taken { P.Taken (F.answers format.now) }
-        ensures { TypedResult P.Taken P.Parses (F.answers format.now) text.now result }
-    {
-        know_symbols(format);
-        let parser = P::under(format);
-        let trimmed = without_ends(text, Class::End);
-        // Many texts have an end of a line, or a blank, and are else as the format prints them.
-        if trimmed.len() < text.len() && !ends_in_digit(text) {
-            if let Some(number) = parser.number(trimmed.as_bytes()) {
+        if self.seems_canonical(bytes) {
+            if let Some(number) = parser.number(bytes) {
                 return Ok(number);
             }
         }
+        Rewriter::parse_rewritten::<T, P>(self.format(), bytes)
+    }
+
+    /// Does the same by the text that is stood for. It makes a rewriter of its own, so that the caller's stays in
+    /// registers.
+    #[cold]
+    #[inline(never)]
+    fn parse_rewritten<T, P: Strict<'a, T, F>>(
+        format: &'a F,
+        bytes: &[u8],
+    ) -> Result<T, TypedError<StrictError>>
+        requires typable { IsTypable (F.answers format.now) }
+        requires taken { P.Taken (F.answers format.now) }
+        ensures { TypedResult P.Taken P.Parses (F.answers format.now) bytes.now result }
+    {
+        // It is filled first, where the space of locals is cleared.
         let mut array = [0; MAX_DECIMAL_LEN];
+        know_symbols(format);
+        let Some(text) = text_of(bytes) else {
+            return Err(TypedError::Number(StrictError::NotUtf8));
+        };
+        let parser = P::under(format);
+        let trimmed = without_ends(text, Class::End);
         let Some(typed) = Rewriter::typable(format).rewrite(trimmed, &mut array) else {
             return Err(TypedError::TooLong);
         };
@@ -228,6 +225,17 @@ impl<'a, F: Format> Rewriter<'a, F> {
             Ok(number) => Ok(number),
             Err(error) => Err(TypedError::Number(Rewriter::placed(format, text, error))),
         }
+    }
+
+    /// Returns whether a text begins and ends as canonical ones do. It may return either for any.
+    #[inline(always)]
+    fn seems_canonical(&self, bytes: &[u8]) -> bool {
+        let Some(first) = bytes.first() else {
+            return false;
+        };
+        ends_in_digit(bytes)
+            && (first.is_ascii_digit()
+                || self.numbers().minus_sign().as_bytes().first() == Some(first))
     }
 
     /// Returns the strict parser of decimals, if the format marks decimals.

@@ -67,8 +67,8 @@ fn image_after<I: Image>(last: char, image: char, c: char, map: &I) -> char
     if c == last { image } else { map.image(c) }
 }
 
-/// Writes the digits that a text begins with after so many bytes of an array, where they stand for themselves and as
-/// far as they fit. Returns the number of bytes then, and what is left of the text.
+/// Writes the digits that a text begins with after so many bytes of an array, where they stand for themselves and the
+/// array has room for the text. Returns the number of bytes then, and what is left of the text.
 #[inline(always)]
 fn put_digits<'t, I: Image>(
     text: &'t str,
@@ -83,15 +83,15 @@ fn put_digits<'t, I: Image>(
     ensures length { length array.new ≡ length array.old }
     ensures bound { length result.1.now ≤ length text.now }
 {
+    if !map.keeps_digits() {
+        return (len, text);
+    }
+    if array.len() - len < text.len() {
+        return (len, text);
+    }
     let mut end = len;
     let mut left = text;
-    if !map.keeps_digits() {
-        return (end, left);
-    }
     while let Some((digit, rest)) = split_digit(left) {
-        if end == array.len() {
-            return (end, left);
-        }
         array[end] = digit;
         end += 1;
         left = rest;
@@ -216,7 +216,7 @@ pub fn without_end(text: &str, class: Class) -> &str
     ensures value { result.now ≡ without_end (is_of class) text.now }
     ensures bound { length result.now ≤ length text.now }
 {
-    if ends_in_digit(text) {
+    if ends_in_digit(text.as_bytes()) {
         return text;
     }
     trimmed_end(text, class)
@@ -232,16 +232,17 @@ pub fn without_ends(text: &str, class: Class) -> &str
 
 /// Returns whether a text ends in a digit.
 #[inline(always)]
-pub(crate) fn ends_in_digit(text: &str) -> bool
+pub(crate) fn ends_in_digit(text: &[u8]) -> bool
     ensures { IsTrue result → EndsInDigit text.now }
 {
-    match text.as_bytes().split_last() {
+    match text.split_last() {
         Some((last, _)) => last.is_ascii_digit(),
         None => false,
     }
 }
 
 /// Does the same for any text.
+#[inline(always)]
 fn trimmed_end(text: &str, class: Class) -> &str
     ensures value { result.now ≡ without_end (is_of class) text.now }
     ensures bound { length result.now ≤ length text.now }

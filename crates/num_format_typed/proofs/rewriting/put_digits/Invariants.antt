@@ -1,4 +1,4 @@
-use Rattle.std.proofs.Common.{◌≡◌, ◌≤◌, ◌++◌, length, take}
+use Rattle.std.proofs.Common.{◌≡◌, ◌+◌, ◌≤◌, ◌++◌, length, take}
 use denote.Shadow.{shadow}
 use denote.Text.{Utf8}
 use Rattle.num_format_typed.specs.Rewriting.{images}
@@ -9,7 +9,7 @@ abbrev pub invariant-loop-digit : goal.invariant-loop-digit
 invariant-loop-digit g l =
     shadow (Utf8 l.left)
     × (take l.end l.array ++ images (g.I.Image.image l.map) l.left ≡ take l.len l.fn.array ++ images (g.I.Image.image l.map) l.text)
-    × (l.end ≤ length l.array)
+    × (l.end + length l.left ≤ length l.fn.array)
     × (length l.array ≡ length l.fn.array)
     × (length l.left ≤ length l.text)
 

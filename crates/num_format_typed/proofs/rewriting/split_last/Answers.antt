@@ -1,6 +1,6 @@
-use Rattle.std.proofs.Common.{◌≡◌, ◌++◌, ◌∙◌, ap, sym, length, arith, length-append}
+use Rattle.std.proofs.Common.{◌≡◌, ◌++◌, ◌∙◌, ap, sym, length, arith}
 use Rattle.std.specs.Prelude.{encode_utf8}
-use Rattle.std.proofs.lemmas.Str.{encodes-chars, len_utf8_bounds, length-encode}
+use Rattle.std.proofs.lemmas.Str.{encodes-chars}
 use Rattle.num_format_typed.proofs.RewritingLemmas.{chars-none, chars-push}
 use Rattle.num_format_typed.proofs.rewriting.split_last.Goals as goal
 
@@ -16,18 +16,6 @@ returns-clause-parts c =
     let last : c.args.text.now ≡ c.as_str.result.now ++ encode_utf8 c.in-Some.last =
     sym c.chars-chars.ensures.rest ∙ c.in-Some.ensures.steps ∙ ap (λ r. r ++ encode_utf8 c.in-Some.last) (sym c.as_str.ensures) in
     (chars-push c.args.text.now c.as_str.result.now c.in-Some.last c.utf8.text c.as_str.utf8 last, last)
-
-pub returns-clause-shorter : goal.returns-clause-shorter
-returns-clause-shorter c =
-    let last : c.args.text.now ≡ c.as_str.result.now ++ encode_utf8 c.in-Some.last =
-    sym c.chars-chars.ensures.rest ∙ c.in-Some.ensures.steps ∙ ap (λ r. r ++ encode_utf8 c.in-Some.last) (sym c.as_str.ensures) in
-    omega (
-      arith,
-      ap length last,
-      length-append c.as_str.result.now (encode_utf8 c.in-Some.last),
-      length-encode c.in-Some.last,
-      len_utf8_bounds c.in-Some.last,
-    )
 
 pub returns-clause-whole : goal.returns-clause-whole
 returns-clause-whole c = encodes-chars c.args.text.now c.utf8.text

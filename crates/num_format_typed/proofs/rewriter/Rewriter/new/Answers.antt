@@ -8,9 +8,3 @@ typable-requires-clause-typable g c =
 pub typable-requires-clause-symbols : goal.typable-requires-clause-symbols
 typable-requires-clause-symbols g c =
     usual-symbols (g.F.Format.answers c.args.format.now) (c.has_usual_symbols.ensures c.if-has_usual_symbols.true)
-
-pub returns-then-has_usual_symbols : goal.returns-then-has_usual_symbols
-returns-then-has_usual_symbols g c = (
-  c.typable.ensures,
-  usual-typable (g.F.Format.answers c.args.format.now) (c.has_usual_symbols.ensures c.if-has_usual_symbols.true),
-)
