@@ -1,14 +1,14 @@
 -- Texts without numerals but 0 to 9, and how they are written to an array.
-use Rattle.std.proofs.Common.{◌≡◌, ℕ, Bool, true, false, ◌&&◌, not, List, [], ◌∷◌, ◌++◌, ap, refl, subst, ◌∙◌, sym, append_assoc}
+use Rattle.std.proofs.Common.{◌≡◌, ℕ, Bool, true, ◌&&◌, not, List, [], ◌∷◌, ◌++◌, ap, refl, subst, ◌∙◌, sym}
 use Rattle.std.proofs.Common.{◌+◌, ◌<◌, ◌≤◌, arith, get_or, length, set, take}
 use Rattle.std.specs.Prelude.{Contains}
 use Rattle.std.specs.Char.{is_ascii, is_ascii_digit}
 use Rattle.std.specs.Cmp.{first_so, second_so}
 use Rattle.std.specs.List.{list_all, list_any}
 use Rattle.std.specs.Str.{chars, is_utf8}
-use Rattle.std.proofs.lemmas.Bool.{and_from, and_parts, not-true}
+use Rattle.std.proofs.lemmas.Bool.{and_from, not-true}
 use Rattle.std.proofs.lemmas.Bool.Decides.{nat_tests}
-use Rattle.std.proofs.lemmas.List.{take_more, take_more_set}
+use Rattle.std.proofs.lemmas.List.{take_more_set}
 use Rattle.std.proofs.lemmas.List.Elements.{All-contains}
 use Rattle.std.proofs.lemmas.List.Folds.{list_any-append}
 use Rattle.std.proofs.lemmas.List.Sums.{AllPass-from_list_all}
@@ -17,7 +17,7 @@ use lib.Utf8.{encode}
 unfoldable pub use Rattle.ucd_category.proofs.Computing.{ucd_category}
 use Rattle.num_format_parsing.specs.Reading.{is_other_numeral}
 use Rattle.num_format_parsing.proofs.NumberLemmas.{ascii-all, no_other-bytes}
-use Rattle.num_format_digits.specs.Digits.{HasNoOthers, common_pairs, common_triples, in_digits}
+use Rattle.num_format_digits.specs.Digits.{HasNoOthers, common_pairs, common_triples}
 
 append : (xs ys : List ℕ) → HasNoOthers xs → HasNoOthers ys → HasNoOthers (xs ++ ys)
 append xs ys p q = (
@@ -57,42 +57,6 @@ pair t is = among common_pairs t pairs_plain is
 
 pub triple : (t : List ℕ) → Contains common_triples t → HasNoOthers t
 triple t is = among common_triples t triples_plain is
-
--- bytes without digits are shown as they are
-undigited : (z : ℕ) (t : List ℕ) → list_all (λ b. not (is_ascii_digit b)) t ≡ true → in_digits z t ≡ t
-undigited z [] all = refl
-undigited z (b ∷ t) all = let both = and_parts _ _ all in
-    rw (not-true (is_ascii_digit b) both.0) (ap (λ u. b ∷ u) (undigited z t both.1))
-
-pub one_same : (t : List ℕ) → 1 ≤ length t → is_ascii_digit (get_or t 0 0) ≡ false → (z : ℕ) → in_digits z (take 1 t) ≡ take 1 t
-one_same [] some other z = absurd (omega arith)
-one_same (b ∷ t) some other z = undigited z (b ∷ []) (and_from _ _ (ap not other) refl)
-
-same_among : (symbols : List (List ℕ)) (t : List ℕ) → list_all (λ s. list_all (λ b. not (is_ascii_digit b)) s) symbols ≡ true
-    → Contains symbols t → (z : ℕ) → in_digits z t ≡ t
-same_among symbols t all is z =
-    let none = λ (s : List ℕ). list_all (λ b. not (is_ascii_digit b)) s in
-    undigited z t (All-contains (λ s. none s ≡ true) symbols t (AllPass-from_list_all none symbols all) is)
-
-pub pair_same : (t : List ℕ) → Contains common_pairs t → (z : ℕ) → in_digits z t ≡ t
-pair_same t is = same_among common_pairs t refl is
-
-pub triple_same : (t : List ℕ) → Contains common_triples t → (z : ℕ) → in_digits z t ≡ t
-triple_same t is = same_among common_triples t refl is
-
--- one more byte of a text is copied after others
-pub copied_next : (n k : ℕ) (old a t : List ℕ) → take (n + k) a ≡ take n old ++ take k t → k < length t → n + k < length a
-    → take (n + (k + 1)) (set a (n + k) (get_or t k 0)) ≡ take n old ++ take (k + 1) t
-copied_next n k old a t before there inside =
-    let v = get_or t k 0 in
-    let next : n + (k + 1) ≡ n + k + 1 = omega arith in
-    ap (λ m. take m (set a (n + k) v)) next ∙ take_more_set a (n + k) v inside ∙ ap (λ x. x ++ v ∷ []) before
-    ∙ append_assoc (take n old) (take k t) (v ∷ []) ∙ ap (λ x. take n old ++ x) (sym (take_more t k 0 there))
-
-pub copied_first : (n : ℕ) (old t : List ℕ) → 1 ≤ length t → n < length old
-    → take (n + 1) (set old n (get_or t 0 0)) ≡ take n old ++ take 1 t
-copied_first n old t some inside =
-    take_more_set old n (get_or t 0 0) inside ∙ ap (λ x. take n old ++ x) (sym (take_more t 0 0 (omega arith)))
 
 -- none after one more digit, or one more symbol
 pub plain_digit : (n d : ℕ) (a : List ℕ) → HasNoOthers (take n a) → is_ascii_digit d ≡ true → n < length a

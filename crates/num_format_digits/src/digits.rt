@@ -1,5 +1,5 @@
 //! The type [`Digits`].
-ghost use Rattle.std.specs.Prelude.{◌≡◌, ◌==◌, ◌<◌, Some, get_or};
+ghost use Rattle.std.specs.Prelude.{◌≡◌, ◌==◌, ◌<◌, ◌≤◌, Some, get_or, length};
 ghost use Rattle.std.specs.Str.{chars};
 ghost use Rattle.num_format_locale.specs.Names.{name_of};
 ghost use Rattle.num_format_parsing.specs.Reading.{is_numeric};
@@ -199,16 +199,14 @@ impl Digits {
         !self.has(c) && is_numeric(c)
     }
 
-    /// Returns the bytes of the zero, and how many they are.
-    pub(crate) fn zero_bytes(self) -> ([u8; 4], usize)
-        ensures bytes { HasZero self result.1 result.0 }
+    /// Writes the bytes of the zero to the start of some space, and returns them.
+    #[inline(always)]
+    pub(crate) fn zero_bytes(self, space: &mut [u8; 4]) -> &[u8]
+        ensures bytes { HasZero self (length result.now) result.now }
+        ensures few { length result.now ≤ 4 }
         ensures set { IsZero self }
     {
-        let mut space = [0; 4];
-        let zero = self.zero().encode_utf8(&mut space);
-        let mut bytes = [0; 4];
-        bytes[..zero.len()].copy_from_slice(zero.as_bytes());
-        (bytes, zero.len())
+        self.zero().encode_utf8(space).as_bytes()
     }
 }
 

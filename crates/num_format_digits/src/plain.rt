@@ -32,8 +32,9 @@ impl Digits {
         ensures length { length array.new ≡ length array.old }
         ensures set { IsZero self }
     {
-        let (zero, width) = self.zero_bytes();
-        match width {
+        let mut space = [0; 4];
+        let zero = self.zero_bytes(&mut space);
+        match zero.len() {
             1 => self.take_digits(text, zero, 1, array),
             2 => self.take_digits(text, zero, 2, array),
             3 => self.take_digits(text, zero, 3, array),
@@ -46,12 +47,12 @@ impl Digits {
     fn take_digits(
         self,
         text: &[u8],
-        zero: [u8; 4],
+        zero: &[u8],
         width: usize,
         array: &mut [u8],
     ) -> Option<(usize, bool)>
         requires set { IsZero self }
-        requires zero { HasZero self width zero }
+        requires zero { HasZero self width zero.now }
         ensures bound { IfSome result (λ taken. taken.0 ≤ length array.new) }
         ensures shown { IfSome result (λ taken. text.now ≡ in_digits self (take taken.0 array.new)) }
         ensures plain { IfSome result (λ taken. IsTrue taken.1 → HasNoOthers (take taken.0 array.new)) }
@@ -76,13 +77,13 @@ impl Digits {
     fn take_run<'t>(
         self,
         text: &'t [u8],
-        zero: [u8; 4],
+        zero: &[u8],
         width: usize,
         start: usize,
         array: &mut [u8],
     ) -> (usize, &'t [u8])
         requires set { IsZero self }
-        requires zero { HasZero self width zero }
+        requires zero { HasZero self width zero.now }
         requires room { start + length text.now ≤ length array.old }
         ensures shown { (whole : List ℕ) → whole ≡ in_digits self (take start array.old) ++ text.now
             → whole ≡ in_digits self (take result.0 array.new) ++ result.1.now }
@@ -103,9 +104,9 @@ impl Digits {
 
     /// Returns the `0` to `9` of the digit of the set that bytes begin with, if they do.
     #[inline(always)]
-    fn first_digit(self, text: &[u8], zero: [u8; 4], width: usize) -> Option<u8>
+    fn first_digit(self, text: &[u8], zero: &[u8], width: usize) -> Option<u8>
         requires set { IsZero self }
-        requires zero { HasZero self width zero }
+        requires zero { HasZero self width zero.now }
         ensures digit { IfSome result (λ digit. is_ascii_digit digit ≡ true) }
         ensures shown { IfSome result (λ digit. text.now ≡ shown_byte self digit ++ drop width text.now) }
         ensures within { IfSome result (λ digit. (1 ≤ width) × (width ≤ length text.now)) }

@@ -107,7 +107,8 @@ pub fn shown_len(text: &[u8], digits: Digits) -> usize
     ensures len { result ≡ length (in_digits digits text.now) }
     ensures fits { result ≤ MAX_DIGIT_TEXT_LEN }
 {
-    let (_, width) = digits.zero_bytes();
+    let mut space = [0; 4];
+    let width = digits.zero_bytes(&mut space).len();
     let mut len = 0;
     for byte in text.iter() {
         len += if byte.is_ascii_digit() { width } else { 1 };
@@ -127,8 +128,9 @@ pub fn put_text(text: &[u8], digits: Digits, array: &mut [u8]) -> usize
     ensures length { length array.new ≡ length array.old }
     ensures set { IsZero digits }
 {
-    let (zero, width) = digits.zero_bytes();
-    match width {
+    let mut space = [0; 4];
+    let zero = digits.zero_bytes(&mut space);
+    match zero.len() {
         1 => put_digits(text, digits, zero, 1, array),
         2 => put_digits(text, digits, zero, 2, array),
         3 => put_digits(text, digits, zero, 3, array),
@@ -138,9 +140,10 @@ pub fn put_text(text: &[u8], digits: Digits, array: &mut [u8]) -> usize
 
 /// Does the same for a zero of so many bytes. Where it is inlined they are known, so that a digit takes few moves.
 #[inline(always)]
-fn put_digits(text: &[u8], digits: Digits, zero: [u8; 4], width: usize, array: &mut [u8]) -> usize
+fn put_digits(text: &[u8], digits: Digits, zero: &[u8], width: usize, array: &mut [u8]) -> usize
     requires set { IsZero digits }
-    requires zero { HasZero digits width zero }
+    requires zero { HasZero digits width zero.now }
+    requires few { width ≤ 4 }
     requires fits { 4 * length text.now ≤ length array.old }
     ensures text { take result array.new ≡ in_digits digits text.now }
     ensures rest { drop result array.new ≡ drop result array.old }
@@ -160,13 +163,14 @@ fn put_digits(text: &[u8], digits: Digits, zero: [u8; 4], width: usize, array: &
 fn put_byte(
     byte: u8,
     digits: Digits,
-    zero: [u8; 4],
+    zero: &[u8],
     width: usize,
     len: usize,
     array: &mut [u8],
 ) -> usize
     requires set { IsZero digits }
-    requires zero { HasZero digits width zero }
+    requires zero { HasZero digits width zero.now }
+    requires few { width ≤ 4 }
     requires fits { len + 4 ≤ length array.old }
     ensures text { take result array.new ≡ take len array.old ++ shown_byte digits byte }
     ensures rest { drop result array.new ≡ drop result array.old }

@@ -53,7 +53,7 @@ raised xs ys bytes n w v same within room some =
 pub overflow_add-array : goal.overflow_add-array
 overflow_add-array c =
     let digit = c.if-not-is_ascii_digit.ensures.cases in
-    omega (arith, zero-fits c.args.digits c.args.width c.args.zero c.requires.set c.requires.zero, digit)
+    omega (arith, zero-fits c.args.digits c.args.width c.args.zero.now c.requires.set c.requires.zero, digit)
 
 pub returns-clause-text : goal.returns-clause-text
 returns-clause-text c =
@@ -63,14 +63,14 @@ returns-clause-text c =
     let shown : shown_byte a.digits a.byte ≡ encode_utf8 (a.digits + d) =
     cond-true (is_ascii_digit a.byte) (encode_utf8 (a.digits + d)) (a.byte ∷ []) (sym digit.value) in
     let copied = c.copy_from_slice.ensures in
-    (raised a.array.now c.copy_from_slice.new.self a.zero a.len a.width (get_or a.zero (a.width - 1) 0 + d)
+    (raised a.array.now c.copy_from_slice.new.self a.zero.now a.len a.width (get_or a.zero.now (a.width - 1) 0 + d)
     copied.after c.requires.zero.within copied.len c.requires.zero.some).0
-    ∙ ap (λ t. take a.len a.array.now ++ t) (zero-raised a.digits a.width d a.zero c.requires.set
+    ∙ ap (λ t. take a.len a.array.now ++ t) (zero-raised a.digits a.width d a.zero.now c.requires.set
     (let h = digit.cases in omega arith) c.requires.zero ∙ sym shown)
 
 pub returns-clause-rest : goal.returns-clause-rest
 returns-clause-rest c =
     let a = c.args in
     let copied = c.copy_from_slice.ensures in
-    (raised a.array.now c.copy_from_slice.new.self a.zero a.len a.width (get_or a.zero (a.width - 1) 0 + (a.byte - 48))
+    (raised a.array.now c.copy_from_slice.new.self a.zero.now a.len a.width (get_or a.zero.now (a.width - 1) 0 + (a.byte - 48))
     copied.after c.requires.zero.within copied.len c.requires.zero.some).1

@@ -11,17 +11,17 @@ pub returns-clause-shown : goal.returns-clause-shown
 returns-clause-shown c =
     let a = c.args in
     let k = a.width - 1 in
-    let front : take k a.text.now ≡ take k a.zero =
-    (slice_eq-Decides Decides-eqb (take k a.text.now) (take k a.zero) _ refl).0 (not-false _ (sym c.ne.ensures ∙ c.if-ne.false)) in
+    let front : take k a.text.now ≡ take k a.zero.now =
+    (slice_eq-Decides Decides-eqb (take k a.text.now) (take k a.zero.now) _ refl).0 (not-false _ (sym c.ne.ensures ∙ c.if-ne.false)) in
     let t = get_or a.text.now k 0 in
-    let l = get_or a.zero k 0 in
+    let l = get_or a.zero.now k 0 in
     let short = c.if-text-width.false in
     let over = c.if-digit-gt9.false in
     let d = (t + (256 - l)) % 256 in
     let small : d ≤ 9 = grind (arith, nat_tests, over) in
     let fits = c.type_inv.text k in
-    let raised = raised_by t l (omega (arith, fits)) (zero-fits a.self a.width a.zero c.requires.set c.requires.zero) small in
+    let raised = raised_by t l (omega (arith, fits)) (zero-fits a.self a.width a.zero.now c.requires.set c.requires.zero) small in
     sym (take-append-drop a.width a.text.now)
-    ∙ ap (λ x. x ++ drop a.width a.text.now) (digit-taken a.self a.width a.zero a.text.now c.requires.set c.requires.zero front
+    ∙ ap (λ x. x ++ drop a.width a.text.now) (digit-taken a.self a.width a.zero.now a.text.now c.requires.set c.requires.zero front
     (grind (arith, nat_tests, short)) raised.0 raised.1)
     ∙ ap (λ n. shown_byte a.self (48 + n) ++ drop a.width a.text.now) (sym raised.2)

@@ -1,6 +1,6 @@
-use Rattle.std.proofs.Common.{◌≡◌, ◌+◌, ◌<◌, ◌∷◌, ◌∙◌, ℕ, true, false, Some, ap, arith, drop, get_or, sym}
+use Rattle.std.proofs.Common.{◌≡◌, ◌+◌, ◌<◌, ◌∷◌, ◌∙◌, ℕ, true, Some, ap, arith, drop, get_or, sym}
 use Rattle.std.specs.Prelude.{find}
-use Rattle.std.proofs.lemmas.Bool.{cond-true, cond-false}
+use Rattle.std.proofs.lemmas.Bool.{cond-true}
 use Rattle.std.proofs.lemmas.List.{at_drop_all, at_drop_more}
 use Rattle.num_format_digits.specs.Digits.{is_digit_of, zeros}
 use Rattle.num_format_digits.specs.Sets.{sets}
@@ -22,15 +22,6 @@ returns-then-has c =
     ∙ sym (cond-true (is_digit_of z ch) (Some z) (find (λ z. is_digit_of z ch) (drop (i + 1) (zeros sets))) yes)
     ∙ sym (step ch i (omega arith))
     ∙ sym c.loop-place.invariant
-
-pub loop-place-preserved : goal.loop-place-preserved
-loop-place-preserved c =
-    let i = c.loop-place.place in
-    let ch = c.args.c in
-    let z = get_or (zeros sets) i 0 in
-    let no : is_digit_of z ch ≡ false = ap (λ z. is_digit_of z ch) (sym c.at-digits.ensures) ∙ sym c.has.ensures ∙ c.if-has.false in
-    c.loop-place.invariant ∙ step ch i (omega arith) ∙ cond-false (is_digit_of z ch) (Some z)
-    (find (λ z. is_digit_of z ch) (drop (i + 1) (zeros sets))) no
 
 pub returns : goal.returns
 returns c =
