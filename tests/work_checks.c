@@ -139,6 +139,63 @@ COLUMNS(parse_longest_typed, )
 COLUMNS(parse_prices, prices_)
 COLUMNS(parse_prices_typed, prices_)
 
+/* What a format prints of three numbers and a decimal, to be parsed. */
+enum { LONGEST, FEW, SHORT, PRICE, PRINTS };
+typedef struct printed {
+    const char *tag;
+    num_format format;
+    char texts[PRINTS][NUM_FORMAT_DECIMAL_MAX];
+    int lengths[PRINTS];
+} printed;
+static printed in_en = {.tag = "en"}, in_en_deva = {.tag = "en-u-nu-deva"};
+static printed in_hi = {.tag = "hi"}, in_hi_deva = {.tag = "hi-u-nu-deva"};
+
+#define ROOM(which) to->texts[which], sizeof to->texts[which]
+
+/* Prints them, and returns 0. */
+static int print_texts(printed *to) {
+    if (num_format_lookup(&to->format, to->tag, strlen(to->tag)) != 0)
+        return 1;
+    to->lengths[LONGEST] = num_format_print_i64(&to->format, INT64_MIN, ROOM(LONGEST));
+    to->lengths[FEW] = num_format_print_i64(&to->format, 1234, ROOM(FEW));
+    to->lengths[SHORT] = num_format_print_i64(&to->format, -234, ROOM(SHORT));
+    to->lengths[PRICE] = num_format_print_decimal(&to->format, (uint64_t)-123450, UINT64_MAX, 2, ROOM(PRICE));
+    for (size_t i = 0; i < PRINTS; i++)
+        if (to->lengths[i] < 0)
+            return 1;
+    return 0;
+}
+
+#define PRINT(which) from->texts[which], (size_t)from->lengths[which]
+
+static int strictly(const printed *from, int which) {
+    return num_format_parse_strict_i64(&from->format, 64, PRINT(which), &number, &at);
+}
+static int typed(const printed *from, int which) {
+    return num_format_parse_typed(&from->format, NUM_FORMAT_I64, PRINT(which), &number, sizeof number, &at);
+}
+static int price(const printed *from, int which) {
+    return num_format_parse_decimal(&from->format, PRINT(which), &low, &high, &scale, &at);
+}
+static int typed_price(const printed *from, int which) {
+    return num_format_parse_typed_decimal(&from->format, PRINT(which), &low, &high, &scale, &at);
+}
+
+/* A call of a function with what each of four formats prints. */
+#define TEXTS_OF(call, which)                                                         \
+    static int call##_##which##_en(void) { return call(&in_en, which); }              \
+    static int call##_##which##_en_deva(void) { return call(&in_en_deva, which); }    \
+    static int call##_##which##_hi(void) { return call(&in_hi, which); }              \
+    static int call##_##which##_hi_deva(void) { return call(&in_hi_deva, which); }
+TEXTS_OF(strictly, LONGEST)
+TEXTS_OF(strictly, FEW)
+TEXTS_OF(strictly, SHORT)
+TEXTS_OF(typed, LONGEST)
+TEXTS_OF(typed, FEW)
+TEXTS_OF(typed, SHORT)
+TEXTS_OF(price, PRICE)
+TEXTS_OF(typed_price, PRICE)
+
 static int print_short(void) { return num_format_print_i64(&en, -234, text, sizeof text); }
 static int print_long(void) { return num_format_print_i64(&en, INT64_MIN, text, sizeof text); }
 static int print_built(void) { return num_format_print_i64(&built, INT64_MIN, text, sizeof text); }
@@ -210,6 +267,12 @@ static int custom(void) { return num_format_custom(&filled, TEXT("'"), NUM_FORMA
     {name ", digits deva", call##_deva, 0},               \
     {name ", digits adlm", call##_adlm, 0}
 
+#define DEVA(name, call)                              \
+    {name ", en", call##_en, 0},                      \
+    {name ", en, digits deva", call##_en_deva, 0},    \
+    {name ", hi", call##_hi, 0},                      \
+    {name ", hi, digits deva", call##_hi_deva, 0}
+
 /* The calls, and what each returns. */
 static const struct {
     const char *name;
@@ -271,6 +334,14 @@ static const struct {
     FOUR("parse a column as typed, 19 digits, fa", parse_longest_typed),
     FOUR("parse a decimal column, 19 digits, fa", parse_prices),
     FOUR("parse a typed decimal column, 19 digits, fa", parse_prices_typed),
+    DEVA("parse strictly i64 INT64_MIN", strictly_LONGEST),
+    DEVA("parse strictly i64 1,234", strictly_FEW),
+    DEVA("parse strictly i64 -234", strictly_SHORT),
+    DEVA("parse typed i64 INT64_MIN", typed_LONGEST),
+    DEVA("parse typed i64 1,234", typed_FEW),
+    DEVA("parse typed i64 -234", typed_SHORT),
+    DEVA("parse decimal -1,234.50", price_PRICE),
+    DEVA("parse typed decimal -1,234.50", typed_price_PRICE),
     {"fill with the locale de-AT", locale, 0},
     {"fill with a custom format", custom, 0},
 };
@@ -290,7 +361,8 @@ int main(int count, char **words) {
         num_format_lookup(&arabext, TEXT("fa-u-nu-arabext")) != 0 ||
         num_format_lookup(&deva, TEXT("fa-u-nu-deva")) != 0 || num_format_lookup(&adlm, TEXT("fa-u-nu-adlm")) != 0 ||
         num_format_custom(&built, TEXT("’’·"), NUM_FORMAT_INDIAN, TEXT("−")) != 0 || print_column() != 0 ||
-        print_columns() != 0)
+        print_columns() != 0 || print_texts(&in_en) != 0 || print_texts(&in_en_deva) != 0 || print_texts(&in_hi) != 0 ||
+        print_texts(&in_hi_deva) != 0)
         return 1;
     for (size_t i = 0; i < sizeof calls / sizeof *calls; i++) {
         if (count == 1)

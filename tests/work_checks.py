@@ -52,6 +52,15 @@ AT_MOST = [
         ]
         for name in ["arabext", "deva", "adlm"]
     ),
+    *(
+        (f"{call}, {locale}, digits deva", 1.8, f"{call}, {locale}")
+        for call in [
+            "parse strictly i64 1,234",
+            "parse typed i64 1,234",
+            "parse decimal -1,234.50",
+        ]
+        for locale in ["en", "hi"]
+    ),
     ("parse typed i64 INT64_MIN", 1.2, "parse strictly i64 INT64_MIN"),
     ("parse typed i64 +1,234 after a space", 3, "parse strictly i64 1,234"),
     ("parse typed i64 1,234 and a newline", 3, "parse strictly i64 1,234"),

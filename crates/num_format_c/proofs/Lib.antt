@@ -1,6 +1,5 @@
 pub mod ArithmeticLemmas
 pub mod ByteLemmas
-pub mod CallLemmas
 pub mod DigitLemmas
 pub mod LayoutLemmas
 pub mod NameLemmas

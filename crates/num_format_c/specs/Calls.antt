@@ -24,7 +24,7 @@ use Rattle.num_format_decimal.specs.declared.error.DecimalError.TheVariants as r
 use Rattle.num_format_decimal.specs.declared.parsing.ParseAtScaleError.{ParseAtScaleError}
 use Rattle.num_format_decimal.specs.declared.parsing.ParseAtScaleError.TheVariants.{Parse, Rescale}
 use Rattle.num_format_digits.specs.Digits.{digits_named, in_digits, set_numbered}
-use Rattle.num_format_digits.specs.Parsing.{InDigits, Way, placed_at_scale, placed_typed}
+use Rattle.num_format_digits.specs.Parsing.{ParsesDigits, Way, placed_at_scale, placed_typed}
 use Rattle.num_format_digits.specs.Parsing as ways
 use Rattle.num_format_digits.specs.declared.parsing.DigitsError.{DigitsError}
 use Rattle.num_format_digits.specs.declared.parsing.DigitsError.TheVariants as digits
@@ -120,22 +120,25 @@ pub record Parses {A : Type 0} (k : Kind) (value : A → ℤ) (s : NumFormat) (t
   pub number : HasLatin s → IsUtf8 text → ¬ Refused k (format_of s) text
       → MatchResult result (λ n. value n ≡ denoted (format_of s) text) (λ _. ⊥)
 
+-- the same as a number of the kind of so many bits, if there is one
+abbrev pub ParsesBits : {A : Type 0} → Option Kind → (A → ℤ) → NumFormat → (text : List ℕ) → (result : Result A Status) → Type 0
+ParsesBits kind value s text result = MatchOption kind (result ≡ Err BadBits) (λ k. Parses k value s text result)
+
 -- what parsing returned is written over something else, or its error is returned
-abbrev pub Stores : {A B : Type 0} → (A → B) → Result A Status → (old new : B) → (result : ℤ) → Type 0
-Stores value r old new result = MatchResult r (λ x. (result ≡ pos 0) × (new ≡ value x)) (λ status. Fails status old new result)
+abbrev pub Stores : {A : Type 0} → Result A Status → (old new : A) → (result : ℤ) → Type 0
+Stores r old new result = MatchResult r (λ x. (result ≡ pos 0) × (new ≡ x)) (λ status. Fails status old new result)
 
--- a text is parsed, and the number is written over another one
-pub record ParsesInto (k : Kind) (s : NumFormat) (text : List ℕ) (old new result : ℤ) : Type 0 where
-  pub bad_format : ¬ HasLatin s → Fails BadFormat old new result
-  pub not_utf8 : HasLatin s → ¬ IsUtf8 text → Fails NotUtf8 old new result
-  pub refused : HasLatin s → IsUtf8 text → Refused k (format_of s) text → Fails NotANumber old new result
-  pub number : HasLatin s → IsUtf8 text → ¬ Refused k (format_of s) text → (result ≡ pos 0) × (new ≡ denoted (format_of s) text)
+-- a text is parsed, which returns what `Parsed` says, and that is written over something else
+pub record ParsesInto {A : Type 0} (Parsed : Result A Status → Type 0) (old new : A) (result : ℤ) : Type 0 where
+  pub returned : Result A Status
+  pub parsed : Parsed returned
+  pub stored : Stores returned old new result
 
--- a way of parsing: what it returns of a text, and of one in the digits of a zero, and how an error of it crosses to C, as a status, and
--- the place of the unexpected byte or else the old one
+-- a way of parsing, an error of it with another place, and how an error crosses to C, as a status, and the place of the unexpected byte or
+-- else the old one
 pub record Parsing (X E : Type 0) : Type 1 where
-  pub Returns : FormatData → List ℕ → Result X E → Type 0
-  pub ReturnsIn : FormatData → (zero : ℕ) → List ℕ → Result X (DigitsError E) → Type 0
+  pub way : Way X E
+  pub placed : (ℕ → ℕ) → E → E
   pub status : E → Status
   pub place : E → ℕ → ℕ
 
@@ -187,21 +190,16 @@ digits_place_of place (digits.OtherNumeral at) old = at
 digits_place_of place digits.TooLong old = old
 digits_place_of place (digits.Number e) old = place e old
 
--- how a way of parsing crosses to C, with what it returns of a text in digits
+-- such a way, by its parts
 abbrev pub crossing : {X E : Type 0} → Way X E → ((ℕ → ℕ) → E → E) → (E → Status) → (E → ℕ → ℕ) → Parsing X E
-crossing way placed status place = record {
-  Returns = way.Returns;
-  ReturnsIn = InDigits way placed;
-  status = status;
-  place = place;
-}
+crossing way placed status place = record { way = way; placed = placed; status = status; place = place }
 
 -- numbers of a kind, decimals, and decimals of a scale, as they are printed and as people type them
-abbrev pub numbers : Kind → Parsing ℤ StrictError
-numbers k = crossing (ways.numbers k (λ z. z)) placed status_of place_of
+abbrev pub numbers : {X : Type 0} → Kind → (X → ℤ) → Parsing X StrictError
+numbers k value = crossing (ways.numbers k value) placed status_of place_of
 
-abbrev pub typed_numbers : Kind → Parsing ℤ (TypedError StrictError)
-typed_numbers k = crossing (ways.typed_numbers k (λ z. z)) (placed_typed placed) (typed_status_of status_of) (typed_place_of place_of)
+abbrev pub typed_numbers : {X : Type 0} → Kind → (X → ℤ) → Parsing X (TypedError StrictError)
+typed_numbers k value = crossing (ways.typed_numbers k value) (placed_typed placed) (typed_status_of status_of) (typed_place_of place_of)
 
 abbrev pub decimals : Parsing FixedPoint StrictError
 decimals = crossing ways.decimals placed status_of place_of
@@ -225,31 +223,32 @@ abbrev pub place_after : {X E : Type 0} → (E → ℕ → ℕ) → Result X E �
 place_after place (Ok x) old = old
 place_after place (Err e) old = place e old
 
--- a result with the image of its value
-abbrev pub mapped : {A X E : Type 0} → (A → X) → Result A E → Result X E
-mapped value (Ok x) = Ok (value x)
-mapped value (Err e) = Err e
+-- what parsing returned crosses to C
+pub record Crosses {X E : Type 0} (status : E → Status) (place : E → ℕ → ℕ) (r : Result X E) (old new : ℕ) (result : Result X Status)
+    : Type 0 where
+  pub returned : result ≡ crossed status r
+  pub written : new ≡ place_after place r old
 
--- a text is parsed under the format of a struct, in its digits, `Gives` holds of what is returned, and the place of an unexpected byte is
--- written; a text that is not UTF-8 is refused as where the digits are 0 to 9
-pub record Crosses {X E Y : Type 0} (p : Parsing X E) (Gives : Result X Status → Y → Type 0) (s : NumFormat) (text : List ℕ)
-    (old new : ℕ) (result : Y) : Type 0 where
-  pub bad_format : ¬ HasFormat s → Gives (Err BadFormat) result × (new ≡ old)
-  pub parsed : HasFormat s → (digits_of s ≡ 48) ⊎ (¬ IsUtf8 text) → (r : Result X E) × p.Returns (format_of s) text r
-      × Gives (crossed p.status r) result × (new ≡ place_after p.place r old)
-  pub in_digits : HasFormat s → ¬ (digits_of s ≡ 48) → IsUtf8 text → (r : Result X (DigitsError E))
-      × p.ReturnsIn (format_of s) (digits_of s) text r × Gives (crossed (digits_status_of p.status) r) result
-      × (new ≡ place_after (digits_place_of p.place) r old)
+-- a text is parsed under the format of a struct, if it is one by which no text can be misread, in its digits, and the place of an
+-- unexpected byte is written; a text that is not UTF-8 is refused as where the digits are 0 to 9
+pub record Gets {X E : Type 0} (p : Parsing X E) (s : NumFormat) (text : List ℕ) (old new : ℕ) (result : Result X Status) : Type 0 where
+  pub bad_format : ¬ HasFormat s → (result ≡ Err BadFormat) × (new ≡ old)
+  pub ambiguous : HasFormat s → ¬ p.way.Takes (format_of s) → (result ≡ Err AmbiguousFormat) × (new ≡ old)
+  pub parsed : HasFormat s → p.way.Takes (format_of s) → (digits_of s ≡ 48) ⊎ (¬ IsUtf8 text) → (r : Result X E)
+      × p.way.Returns (format_of s) text r × Crosses p.status p.place r old new result
+  pub in_digits : HasFormat s → p.way.Takes (format_of s) → ¬ (digits_of s ≡ 48) → IsUtf8 text → (r : Result X (DigitsError E))
+      × ParsesDigits p.placed (p.way.Returns (format_of s)) (digits_of s) text r
+      × Crosses (digits_status_of p.status) (digits_place_of p.place) r old new result
 
--- the result is returned
-abbrev pub Gets : {A X E : Type 0} → Parsing X E → (A → X) → NumFormat → (text : List ℕ) → (old new : ℕ)
-    → (result : Result A Status) → Type 0
-Gets p value = Crosses p (λ r result. r ≡ mapped value result)
+-- the same as a number of the kind of so many bits, if there is one
+abbrev pub GetsBits : {X : Type 0} → Option Kind → (X → ℤ) → NumFormat → (text : List ℕ) → (old new : ℕ) → (result : Result X Status)
+    → Type 0
+GetsBits kind value s text old new result =
+    MatchOption kind ((result ≡ Err BadBits) × (new ≡ old)) (λ k. Gets (numbers k value) s text old new result)
 
--- what was parsed is stored
-abbrev pub Into : {X B E : Type 0} → Parsing X E → (X → B) → NumFormat → (text : List ℕ) → (old new : B) → (at_old at_new : ℕ)
-    → (result : ℤ) → Type 0
-Into p value s text old new = Crosses p (λ r result. Stores value r old new result) s text
+-- what is returned is stored
+abbrev pub Into : {X E : Type 0} → Parsing X E → NumFormat → (text : List ℕ) → (old new : X) → (at_old at_new : ℕ) → (result : ℤ) → Type 0
+Into p s text old new at_old at_new result = ParsesInto (Gets p s text at_old at_new) old new result
 
 -- a text begins with a mark of the direction of writing: U+061C, U+200E or U+200F
 abbrev pub begins_with_mark : List ℕ → Bool
@@ -263,12 +262,12 @@ columns_of [] = 0
 columns_of (b ∷ t) = (if is_char_start b && not (begins_with_mark (b ∷ t)) then 1 else 0) + columns_of t
 
 -- an unsigned number of 128 bits, by its halves
-abbrev pub unsigned_wide : ℕ → ℕ → ℤ
-unsigned_wide low high = pos (low + high * 2 ^ 64)
+abbrev pub unsigned_wide : ℕ → ℕ → ℕ
+unsigned_wide low high = low + high * 2 ^ 64
 
 -- a signed number of 128 bits, by the halves of its two's complement
 abbrev pub signed_wide : ℕ → ℕ → ℤ
-signed_wide low high = cast_signed w128 (low + high * 2 ^ 64)
+signed_wide low high = cast_signed w128 (unsigned_wide low high)
 
 -- a decimal, by the halves of its units and its scale
 abbrev pub decimal_of : (low high scale : ℕ) → FixedPoint

@@ -73,12 +73,15 @@ abbrev pub format_of : NumFormat → FormatData
 format_of s = format_with (separator_of s) (unwrap_or (grouping_of s.grouping) Posix) (minus_sign_of s) (decimal_mark_of s)
 
 -- a format and a zero are those that a struct has
-abbrev pub IsFormatIn : FormatData → (zero : ℕ) → NumFormat → Type 0
-IsFormatIn f z s = HasFormat s × (z ≡ digits_of s) × (f ≡ format_of s)
+pub record IsFormatIn (f : FormatData) (zero : ℕ) (s : NumFormat) : Type 0 where
+  pub has_format : HasFormat s
+  pub digits : zero ≡ digits_of s
+  pub format : f ≡ format_of s
 
 -- a format is the one that a struct has, whose digits are 0 to 9
-abbrev pub IsFormatOf : FormatData → NumFormat → Type 0
-IsFormatOf f s = HasLatin s × (f ≡ format_of s)
+pub record IsFormatOf (f : FormatData) (s : NumFormat) : Type 0 where
+  pub has_latin : HasLatin s
+  pub format : f ≡ format_of s
 
 -- two formats agree in the four data that the text of a number depends on
 pub record Agrees (f g : FormatData) : Type 0 where

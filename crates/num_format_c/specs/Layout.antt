@@ -1,25 +1,14 @@
 -- A column: the bytes of its values, which rows have one, the texts, and where each ends.
 use Rattle.std.specs.Prelude.{◌≡◌, ◌==◌, ℕ, zero, suc, ◌+◌, ◌-◌, ◌*◌, ◌/◌, ◌%◌, ◌^◌, ◌<◌, ◌≤◌, ℤ, pos, nat_le, Bool, ◌&&◌, ◌||◌, List, []}
-use Rattle.std.specs.Prelude.{◌++◌, length, drop, slice_index_or, slice_range, Option, Some, None, if◌then◌else◌}
+use Rattle.std.specs.Prelude.{true, false, ◌++◌, length, drop, slice_index_or, slice_range, Option, Some, None, if◌then◌else◌}
 use Rattle.std.specs.Borrow.{Bor}
 use Rattle.std.specs.Int.{Width, byte_len, cast_signed, from_le_bytes, w8, w16, w32, w64, w128}
-use Rattle.num_format.specs.Kind.{IntegerType, Kind, kind_of}
-use Rattle.num_format.specs.Kind as integer
+use Rattle.num_format.specs.Kind.{IntegerType, Kind, kind_of, I8, U8, I16, U16, I32, U32, I64, U64, I128, U128}
 use Rattle.num_format_c.specs.declared.layout.offset.OffsetType.{OffsetType}
 use Rattle.num_format_c.specs.declared.layout.texts.Texts.{Texts}
 use Rattle.num_format_c.specs.declared.layout.validity.Validity.{Validity}
 use Rattle.num_format_c.specs.declared.layout.values.Values.{Values}
 use Rattle.num_format_c.specs.declared.layout.offset.OffsetType.TheVariants as offset
-use Rattle.num_format_c.specs.declared.layout.value.ValueType.{ValueType}
-use Rattle.num_format_c.specs.declared.layout.value.ValueType.TheVariants as value
-
--- the number of some bytes, of which the first is the lowest
-abbrev pub unsigned_number : Width → List ℕ → ℤ
-unsigned_number w bytes = pos (from_le_bytes w bytes)
-
--- the number of bytes in two's complement
-abbrev pub signed_number : Width → List ℕ → ℤ
-signed_number w bytes = cast_signed w (from_le_bytes w bytes)
 
 -- a type of values: how many bytes one has, which number they are, and the kind of that number
 pub record Representation : Type 0 where
@@ -27,13 +16,22 @@ pub record Representation : Type 0 where
   pub number : List ℕ → ℤ
   pub kind : Kind
 
--- unsigned integers of a width
+-- unsigned integers of a width, of which the first byte is the lowest
 abbrev pub unsigned : Width → IntegerType → Representation
-unsigned w kind = record { size = byte_len w; number = unsigned_number w; kind = kind_of kind }
+unsigned w kind = record { size = byte_len w; number = λ bytes. pos (from_le_bytes w bytes); kind = kind_of kind }
 
--- signed integers of a width
+-- signed integers of a width, in two's complement
 abbrev pub signed : Width → IntegerType → Representation
-signed w kind = record { size = byte_len w; number = signed_number w; kind = kind_of kind }
+signed w kind = record { size = byte_len w; number = λ bytes. cast_signed w (from_le_bytes w bytes); kind = kind_of kind }
+
+-- the numbers of a kind, as Rust's types have them: with a sign, or without
+abbrev pub Number : (has_sign : Bool) → Type 0
+Number true = ℤ
+Number false = ℕ
+
+abbrev pub value_of : (has_sign : Bool) → Number has_sign → ℤ
+value_of true = λ z. z
+value_of false = λ n. pos n
 
 -- the bytes of row k
 abbrev pub row_bytes : (size : ℕ) → List ℕ → ℕ → List ℕ
@@ -43,27 +41,15 @@ row_bytes size bytes k = slice_range bytes (k * size) (k * size + size)
 abbrev pub number_at : Representation → List ℕ → ℕ → ℤ
 number_at t values k = t.number (row_bytes t.size values k)
 
--- a property of how the values of a type are represented
-abbrev pub MatchType : ValueType → (Representation → Type 0) → Type 0
-MatchType value.I8 P = P (signed w8 integer.I8)
-MatchType value.U8 P = P (unsigned w8 integer.U8)
-MatchType value.I16 P = P (signed w16 integer.I16)
-MatchType value.U16 P = P (unsigned w16 integer.U16)
-MatchType value.I32 P = P (signed w32 integer.I32)
-MatchType value.U32 P = P (unsigned w32 integer.U32)
-MatchType value.I64 P = P (signed w64 integer.I64)
-MatchType value.U64 P = P (unsigned w64 integer.U64)
-MatchType value.I128 P = P (signed w128 integer.I128)
-MatchType value.U128 P = P (unsigned w128 integer.U128)
-
--- the type of values for which a number stands: the code of Apache Arrow's letter for it, and of q and Q, which Arrow has not
-abbrev pub value_type_of : ℕ → Option ValueType
-value_type_of code =
-    if code == 0x63 then Some value.I8 else (if code == 0x43 then Some value.U8 else
-    (if code == 0x73 then Some value.I16 else (if code == 0x53 then Some value.U16 else
-    (if code == 0x69 then Some value.I32 else (if code == 0x49 then Some value.U32 else
-    (if code == 0x6C then Some value.I64 else (if code == 0x4C then Some value.U64 else
-    (if code == 0x71 then Some value.I128 else (if code == 0x51 then Some value.U128 else None)))))))))
+-- how values are represented of the type for which a number stands: the code of Apache Arrow's letter for it, and of q and Q, which Arrow
+-- has not
+abbrev pub representation_of : ℕ → Option Representation
+representation_of code =
+    if code == 0x63 then Some (signed w8 I8) else (if code == 0x43 then Some (unsigned w8 U8) else
+    (if code == 0x73 then Some (signed w16 I16) else (if code == 0x53 then Some (unsigned w16 U16) else
+    (if code == 0x69 then Some (signed w32 I32) else (if code == 0x49 then Some (unsigned w32 U32) else
+    (if code == 0x6C then Some (signed w64 I64) else (if code == 0x4C then Some (unsigned w64 U64) else
+    (if code == 0x71 then Some (signed w128 I128) else (if code == 0x51 then Some (unsigned w128 U128) else None)))))))))
 
 -- the type of offsets for which a number stands
 abbrev pub offset_type_of : ℕ → Option OffsetType
@@ -90,16 +76,13 @@ IsEnough t n len = len ≡ (n + 1) * byte_len (width t)
 abbrev pub is_bit_set : List ℕ → ℕ → Bool
 is_bit_set bits k = slice_index_or bits (k / 8) 0 / 2 ^ (k % 8) % 2 == 1
 
--- bits, and the one of the first row
-abbrev pub to_validity : Bor (List ℕ) → ℕ → Validity
-to_validity bits bit_offset = record { bits = bits; bit_offset = bit_offset }
-
 -- values, or texts, of which some may be null
 abbrev pub to_values : (bytes bits : Bor (List ℕ)) → ℕ → Values
-to_values bytes bits bit_offset = record { bytes = bytes; validity = to_validity bits bit_offset }
+to_values bytes bits bit_offset = record { bytes = bytes; validity = record { bits = bits; bit_offset = bit_offset } }
 
 abbrev pub to_texts : (offsets bytes bits : Bor (List ℕ)) → ℕ → Texts
-to_texts offsets bytes bits bit_offset = record { offsets = offsets; bytes = bytes; validity = to_validity bits bit_offset }
+to_texts offsets bytes bits bit_offset =
+    record { offsets = offsets; bytes = bytes; validity = record { bits = bits; bit_offset = bit_offset } }
 
 -- row k has a value: there are no bits, or bit k from the offset is set; the other rows are null
 abbrev pub is_valid : Validity → (k : ℕ) → Bool

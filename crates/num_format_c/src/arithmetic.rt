@@ -5,7 +5,7 @@ ghost use Rattle.num_format_c.specs.Arithmetic.{Compares, Computes, Rescales, or
 ghost use Rattle.num_format_c.specs.Calls.{decimal_of, returned};
 
 use crate::status::Status;
-use crate::wide::{decimal_of, scale_of, store_decimal};
+use crate::wide::{decimal_of, scale_of, stored_decimal};
 use num_format_decimal::Rounding;
 use std::cmp::Ordering;
 
@@ -24,8 +24,7 @@ pub fn add(
     let number = decimal_of(*low, *high, *scale)?;
     let other = decimal_of(other_low, other_high, other_scale)?;
     let sum = number.checked_add(other).ok_or(Status::OutOfRange)?;
-    store_decimal(sum, low, high, scale);
-    Ok(0)
+    stored_decimal(Ok(sum), low, high, scale)
 }
 
 /// Subtracts a decimal from another one, and returns 0.
@@ -43,8 +42,7 @@ pub fn subtract(
     let number = decimal_of(*low, *high, *scale)?;
     let other = decimal_of(other_low, other_high, other_scale)?;
     let difference = number.checked_sub(other).ok_or(Status::OutOfRange)?;
-    store_decimal(difference, low, high, scale);
-    Ok(0)
+    stored_decimal(Ok(difference), low, high, scale)
 }
 
 /// Brings a decimal to another scale, and returns 0.
@@ -62,8 +60,7 @@ pub fn rescale(
     let number = decimal_of(*low, *high, *scale)?;
     let new_scale = scale_of(new_scale)?;
     let rescaled = number.rescale(new_scale, rounding_of(rounding))?;
-    store_decimal(rescaled, low, high, scale);
-    Ok(0)
+    stored_decimal(Ok(rescaled), low, high, scale)
 }
 
 /// Returns the rounding for which a number stands.

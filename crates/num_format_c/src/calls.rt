@@ -1,31 +1,31 @@
 //! What the calls do, with Rust's types.
-ghost use Rattle.std.specs.Prelude.{◌≡◌, ◌⊎◌, ◌<◌, ◌≤◌, length, pos, Err, IsUtf8, MatchOption, if◌then◌else◌};
+ghost use Rattle.std.specs.Prelude.{◌≡◌, ◌<◌, ◌≤◌, length, pos, MatchResult, if◌then◌else◌};
 ghost use Rattle.num_format.specs.Alike.{Alike};
-ghost use Rattle.num_format.specs.Data.{locale_data};
-ghost use Rattle.num_format.specs.Names.{name_of};
 ghost use Rattle.num_format.specs.RoundTrips.{RoundTrips};
-ghost use Rattle.num_format.specs.Strict.{ParsesStrictly};
 ghost use Rattle.num_format.specs.Text.{text_of};
+ghost use Rattle.num_format_decimal.specs.Marks.{MarksDecimals};
+ghost use Rattle.num_format_typed.specs.Typed.{IsTypable};
+ghost use Rattle.num_format_digits.specs.Parsing as ways;
 ghost use Rattle.num_format_digits.specs.declared.printing.TheConstants.{MAX_DIGIT_TEXT_LEN};
 ghost use Rattle.num_format_c.specs.Calls.{ByTag, FillsByTag, FillsCustom, FillsLocale, NamesByTag, ReturnsLength};
-ghost use Rattle.num_format_c.specs.Calls.{ReturnsDecimalLength, Gets, Parses, Prints, PrintsDecimal, SetsDigits};
-ghost use Rattle.num_format_c.specs.Calls.{Tells, Writes, WritesName, decimals, decimal_of, numbers, begins_with_mark};
-ghost use Rattle.num_format_c.specs.Calls.{columns_of, returned, signed_kind, typed_decimals, typed_numbers};
-ghost use Rattle.num_format_c.specs.Calls.{unsigned_kind};
-ghost use Rattle.num_format_c.specs.declared.status.Status.TheVariants.{BadBits};
+ghost use Rattle.num_format_c.specs.Calls.{ReturnsDecimalLength, Gets, GetsBits, Parses, ParsesBits, Prints};
+ghost use Rattle.num_format_c.specs.Calls.{PrintsDecimal, SetsDigits, Tells, Writes, WritesName, begins_with_mark};
+ghost use Rattle.num_format_c.specs.Calls.{columns_of, crossing, decimal_of, decimals, numbers, returned, signed_kind};
+ghost use Rattle.num_format_c.specs.Calls.{typed_decimals, typed_numbers, unsigned_kind};
+ghost use Rattle.num_format_c.specs.declared.status.Status.TheVariants.{AmbiguousFormat};
 ghost use Rattle.num_format_c.specs.FormatRef.{HasFormat, HasLatin, IsFormatIn, IsFormatOf, digits_of, format_of};
 
 use crate::format::{FormatRef, NumFormat, grouping_of};
 use crate::shown;
-use crate::status::{Status, crossed};
+use crate::status::{Cause, Status, crossed};
 use crate::wide::decimal_of;
 use num_format::parsing::{FromFormattedStr, ParseBytesError, StrictError, StrictParser};
 use num_format::utils::{DecimalStr, MinusSignStr, SeparatorStr};
 use num_format::{Buffer, Format, Locale, ToFormattedStr};
-use num_format_decimal::{Decimal, DecimalBuffer};
-use num_format_digits::Digits;
+use num_format_decimal::{Decimal, DecimalBuffer, DecimalParser};
+use num_format_digits::{Digits, TextParser};
 use num_format_int::buffer::copy_bytes;
-use num_format_typed::{parse_typed_bytes, parse_typed_decimal_bytes};
+use num_format_typed::{TypedError, TypedParser, parse_typed_bytes, parse_typed_decimal_bytes};
 use num_format_writers::formatted::is_char_start;
 
 /// Calls a function for the integer type of 8, 16, 32 or 64 bits.
@@ -45,9 +45,7 @@ macro_rules! by_bits {
 pub fn fill_locale(format: &mut NumFormat, name: &[u8]) -> Result<i32, Status>
     ensures { FillsLocale name.now format.old format.new (returned result) }
 {
-    let Ok(name) = str::from_utf8(name) else {
-        return Err(Status::NotUtf8);
-    };
+    let name = str::from_utf8(name)?;
     let Ok(locale) = Locale::from_name(name) else {
         return Err(Status::UnknownLocale);
     };
@@ -60,9 +58,7 @@ pub fn fill_by_tag(format: &mut NumFormat, tag: &[u8]) -> Result<i32, Status>
     ensures { ByTag tag.now format.old format.new (returned result)
         (FillsByTag tag.now format.old format.new (returned result)) }
 {
-    let Ok(tag) = str::from_utf8(tag) else {
-        return Err(Status::NotUtf8);
-    };
+    let tag = str::from_utf8(tag)?;
     let locale = Locale::lookup(tag).ok_or(Status::UnknownLocale)?;
     let Ok(digits) = Digits::of_tag(tag) else {
         return Err(Status::UnknownDigits);
@@ -78,9 +74,7 @@ pub fn fill_by_tag(format: &mut NumFormat, tag: &[u8]) -> Result<i32, Status>
 pub fn set_digits(format: &mut NumFormat, name: &[u8]) -> Result<i32, Status>
     ensures { SetsDigits name.now format.old format.new (returned result) }
 {
-    let Ok(name) = str::from_utf8(name) else {
-        return Err(Status::NotUtf8);
-    };
+    let name = str::from_utf8(name)?;
     let digits = Digits::from_name(name).ok_or(Status::UnknownDigits)?;
     format.digits = digits.number();
     Ok(0)
@@ -202,44 +196,73 @@ pub fn parse_under<F: Format, N: FromFormattedStr>(format: &F, text: &[u8]) -> R
 
 /// Parses the text as a signed number of that many bits.
 pub fn parse_signed(format: &NumFormat, bits: u32, text: &[u8]) -> Result<i64, Status>
-    ensures { MatchOption (signed_kind bits) (result ≡ Err BadBits)
-        (λ k. Parses k (λ n. n) format.now text.now result) }
+    ensures { ParsesBits (signed_kind bits) (λ n. n) format.now text.now result }
 {
     by_bits!(bits, parse(format, text), i8, i16, i32, i64)
 }
 
 /// Parses the text as an unsigned number of that many bits.
 pub fn parse_unsigned(format: &NumFormat, bits: u32, text: &[u8]) -> Result<u64, Status>
-    ensures { MatchOption (unsigned_kind bits) (result ≡ Err BadBits)
-        (λ k. Parses k (λ n. pos n) format.now text.now result) }
+    ensures { ParsesBits (unsigned_kind bits) (λ n. pos n) format.now text.now result }
 {
     by_bits!(bits, parse(format, text), u8, u16, u32, u64)
 }
 
-/// Returns the text if it is to be parsed in other digits than `0` to `9`. One that is not UTF-8 is refused in each set
-/// alike.
+/// Parses the text in a digit set by a parser of texts in `0` to `9`. Writes the place of an unexpected byte, and
+/// nothing for another error.
 #[inline(always)]
-pub fn in_others(text: &[u8], digits: Digits) -> Option<&str>
-    ensures { MatchOption result ((digits ≡ 48) ⊎ (¬ IsUtf8 text.now))
-        (λ t. (¬ (digits ≡ 48)) × IsUtf8 text.now × (t.now ≡ text.now)) }
+pub fn parse_in<T, P: TextParser<T>>(
+    parser: &P,
+    digits: Digits,
+    text: &[u8],
+    at: &mut usize,
+) -> Result<T, Status>
+where
+    P::Error: Cause,
+    ensures { (s : NumFormat) → IsFormatIn (P.format parser.now) digits s
+        → (P.way parser.now).Takes (P.format parser.now)
+        → Gets (crossing (P.way parser.now) P.Error.placed P.Error.status_of P.Error.place_of)
+        s text.now at.old at.new result }
+{
+    if !digits.is_latin() {
+        if let Some(number) = digits.parse_shown_by(text, parser) {
+            return Ok(number);
+        }
+    }
+    parse_any(parser, digits, text, at)
+}
+
+/// Does the same for a text that is no number as it is printed.
+#[inline(always)]
+fn parse_any<T, P: TextParser<T>>(
+    parser: &P,
+    digits: Digits,
+    text: &[u8],
+    at: &mut usize,
+) -> Result<T, Status>
+where
+    P::Error: Cause,
+    ensures { (s : NumFormat) → IsFormatIn (P.format parser.now) digits s
+        → (P.way parser.now).Takes (P.format parser.now)
+        → Gets (crossing (P.way parser.now) P.Error.placed P.Error.status_of P.Error.place_of)
+        s text.now at.old at.new result }
 {
     if digits.is_latin() {
-        return None;
+        return crossed(parser.parse_text(text), at);
     }
     match str::from_utf8(text) {
-        Ok(text) => Some(text),
-        Err(_) => None,
+        Ok(text) => crossed(digits.parse_by(text, parser), at),
+        Err(_) => crossed(parser.parse_text(text), at),
     }
 }
 
-/// Parses the text strictly as a number of the type. Writes the place of an unexpected byte, and nothing
-/// for another error.
+/// Parses the text strictly as a number of the type, as [`parse_in`] does.
 pub fn parse_strict<N: FromFormattedStr>(
     format: &NumFormat,
     text: &[u8],
     at: &mut usize,
 ) -> Result<N, Status>
-    ensures { Gets (numbers N.kind) N.value format.now text.now at.old at.new result }
+    ensures { Gets (numbers N.kind N.value) format.now text.now at.old at.new result }
 {
     match FormatRef::latin(format) {
         Ok(format) => crossed(N::from_strict_bytes(text, &format), at),
@@ -255,43 +278,30 @@ fn parse_strict_in<N: FromFormattedStr>(
     text: &[u8],
     at: &mut usize,
 ) -> Result<N, Status>
-    ensures { Gets (numbers N.kind) N.value format.now text.now at.old at.new result }
+    ensures { Gets (numbers N.kind N.value) format.now text.now at.old at.new result }
 {
-    let (held, digits) = FormatRef::new(format)?;
+    let (format, digits) = FormatRef::new(format)?;
     if !digits.is_latin() {
-        if let Some(number) = digits.parse_shown::<N, _>(text, &held) {
+        if let Some(number) = digits.parse_shown::<N, _>(text, &format) {
             return Ok(number);
         }
     }
-    parse_strict_any(format, text, at)
+    parse_strict_any(&format, digits, text, at)
 }
 
-/// Does the same for a text that is no number as it is printed, or in `0` to `9`.
+/// Does the same for a text that is no number as it is printed.
 #[cold]
 #[inline(never)]
-fn parse_strict_any<N: FromFormattedStr>(
-    format: &NumFormat,
+fn parse_strict_any<N: FromFormattedStr, F: Format>(
+    format: &F,
+    digits: Digits,
     text: &[u8],
     at: &mut usize,
 ) -> Result<N, Status>
-    ensures { Gets (numbers N.kind) N.value format.now text.now at.old at.new result }
+    ensures { (s : NumFormat) → IsFormatIn (F.answers format.now) digits s
+        → Gets (numbers N.kind N.value) s text.now at.old at.new result }
 {
-    let (format, digits) = FormatRef::new(format)?;
-    match in_others(text, digits) {
-        None => crossed(parse_by_parser::<N, _>(text, &format), at),
-        Some(text) => crossed(digits.parse_strict::<N, _>(text, &format), at),
-    }
-}
-
-/// Does the same as [`from_strict_bytes`](FromFormattedStr::from_strict_bytes), which is inlined into [`parse_strict`]
-/// as long as this is its one call.
-fn parse_by_parser<N: FromFormattedStr, F: Format>(
-    text: &[u8],
-    format: &F,
-) -> Result<N, StrictError>
-    ensures { ParsesStrictly N.kind N.value (F.answers format.now) text.now result }
-{
-    StrictParser::new(format)?.parse_bytes(text)
+    parse_any::<N, _>(&StrictParser::new(format)?, digits, text, at)
 }
 
 /// Parses the text strictly as a signed number of that many bits, as [`parse_strict`] does.
@@ -301,8 +311,7 @@ pub fn parse_strict_signed(
     text: &[u8],
     at: &mut usize,
 ) -> Result<i64, Status>
-    ensures { MatchOption (signed_kind bits) ((result ≡ Err BadBits) × (at.new ≡ at.old))
-        (λ k. Gets (numbers k) (λ n. n) format.now text.now at.old at.new result) }
+    ensures { GetsBits (signed_kind bits) (λ n. n) format.now text.now at.old at.new result }
 {
     by_bits!(bits, parse_strict(format, text, at), i8, i16, i32, i64)
 }
@@ -314,30 +323,22 @@ pub fn parse_strict_unsigned(
     text: &[u8],
     at: &mut usize,
 ) -> Result<u64, Status>
-    ensures { MatchOption (unsigned_kind bits) ((result ≡ Err BadBits) × (at.new ≡ at.old))
-        (λ k. Gets (numbers k) (λ n. pos n) format.now text.now at.old at.new result) }
+    ensures { GetsBits (unsigned_kind bits) (λ n. pos n) format.now text.now at.old at.new result }
 {
     by_bits!(bits, parse_strict(format, text, at), u8, u16, u32, u64)
 }
 
-/// Parses the text strictly as a decimal, as [`parse_strict`] does as a number.
+/// Parses the text strictly as a decimal, as [`parse_in`] does.
 pub fn parse_decimal(format: &NumFormat, text: &[u8], at: &mut usize) -> Result<Decimal, Status>
-    ensures { Gets decimals (λ d. d) format.now text.now at.old at.new result }
+    ensures { Gets decimals format.now text.now at.old at.new result }
 {
     let (format, digits) = FormatRef::new(format)?;
-    if !digits.is_latin() {
-        if let Some(number) = digits.parse_shown_decimal(text, &format) {
-            return Ok(number);
-        }
-    }
-    match in_others(text, digits) {
-        None => crossed(Decimal::from_strict_bytes(text, &format), at),
-        Some(text) => crossed(digits.parse_decimal(text, &format), at),
-    }
+    let parser = DecimalParser::new(&format)?;
+    parse_in(&parser, digits, text, at)
 }
 
 /// Parses the text as people type it as a number of the type under the format and the digit set that a struct has, as
-/// [`parse_strict`] does.
+/// [`parse_in`] does.
 pub fn parse_typed<N: FromFormattedStr, F: Format>(
     format: &F,
     digits: Digits,
@@ -345,18 +346,20 @@ pub fn parse_typed<N: FromFormattedStr, F: Format>(
     at: &mut usize,
 ) -> Result<N, Status>
     ensures { (s : NumFormat) → IsFormatIn (F.answers format.now) digits s
-        → Gets (typed_numbers N.kind) N.value s text.now at.old at.new result }
+        → Gets (typed_numbers N.kind N.value) s text.now at.old at.new result }
 {
-    if !digits.is_latin() {
-        if let Some(number) = digits.parse_shown_typed::<N, F>(text, format) {
-            return Ok(number);
-        }
+    if digits.is_latin() {
+        return crossed(parse_typed_bytes::<N, F>(text, format), at);
+    }
+    if let Some(number) = digits.parse_shown_typed::<N, F>(text, format) {
+        return Ok(number);
     }
     parse_typed_any(format, digits, text, at)
 }
 
-/// Does the same for a text in `0` to `9`, or with other symbols than those of locales.
-#[inline(always)]
+/// Does the same for a text that is no number as it is printed, or with other symbols than those of locales.
+#[cold]
+#[inline(never)]
 fn parse_typed_any<N: FromFormattedStr, F: Format>(
     format: &F,
     digits: Digits,
@@ -364,32 +367,56 @@ fn parse_typed_any<N: FromFormattedStr, F: Format>(
     at: &mut usize,
 ) -> Result<N, Status>
     ensures { (s : NumFormat) → IsFormatIn (F.answers format.now) digits s
-        → Gets (typed_numbers N.kind) N.value s text.now at.old at.new result }
+        → Gets (typed_numbers N.kind N.value) s text.now at.old at.new result }
 {
-    match in_others(text, digits) {
-        None => crossed(parse_typed_bytes::<N, F>(text, format), at),
-        Some(text) => crossed(digits.parse_typed::<N, F>(text, format), at),
+    parse_any::<N, _>(&TypedParser::new(format)?, digits, text, at)
+}
+
+/// A parser of whole numbers and decimals, by which decimals are parsed.
+#[derive(Drop)]
+struct Decimals<P>(P);
+
+impl<'a, F: Format> TextParser<Decimal> for Decimals<TypedParser<'a, F>> {
+    type Error = TypedError<StrictError>;
+
+    ghost format = { λ p. p.0 };
+
+    ghost way = { λ _. ways.typed_decimals };
+
+    #[inline(always)]
+    fn parse_text(&self, ascii: &[u8]) -> Result<Decimal, TypedError<StrictError>> {
+        self.0.parse_decimal_bytes(ascii)
     }
 }
 
-/// Parses the text as people type it as a decimal, as [`parse_strict`] does as a number.
+/// Parses the text as people type it as a decimal, as [`parse_in`] does.
 pub fn parse_typed_decimal(
     format: &NumFormat,
     text: &[u8],
     at: &mut usize,
 ) -> Result<Decimal, Status>
-    ensures { Gets typed_decimals (λ d. d) format.now text.now at.old at.new result }
+    ensures { Gets typed_decimals format.now text.now at.old at.new result }
 {
     let (format, digits) = FormatRef::new(format)?;
-    if !digits.is_latin() {
-        if let Some(number) = digits.parse_shown_typed_decimal(text, &format) {
-            return Ok(number);
-        }
+    if digits.is_latin() {
+        return crossed(parse_typed_decimal_bytes(text, &format), at);
     }
-    match in_others(text, digits) {
-        None => crossed(parse_typed_decimal_bytes(text, &format), at),
-        Some(text) => crossed(digits.parse_typed_decimal(text, &format), at),
+    parse_in(&Decimals(typed_parser(&format)?), digits, text, at)
+}
+
+/// Returns a parser of typed texts under the format, if that marks decimals.
+pub fn typed_parser<F: Format>(format: &F) -> Result<TypedParser<'_, F>, Status>
+    ensures { MatchResult result
+        (λ parser. (parser ≡ F.answers format.now)
+        × IsTypable (F.answers format.now) × MarksDecimals (F.answers format.now))
+        (λ status. (status ≡ AmbiguousFormat)
+        × (¬ (IsTypable (F.answers format.now) × MarksDecimals (F.answers format.now)))) }
+{
+    let parser = TypedParser::new(format)?;
+    if !parser.marks_decimals() {
+        return Err(Status::AmbiguousFormat);
     }
+    Ok(parser)
 }
 
 /// Fills the struct with the format of a separator, a grouping's number, a minus sign and a decimal mark,
@@ -459,9 +486,7 @@ pub fn name_by_tag(tag: &[u8], array: &mut [u8]) -> Result<i32, Status>
     ensures { ByTag tag.now array.old array.new (returned result)
         (λ place. NamesByTag tag.now array.old array.new (returned result) place) }
 {
-    let Ok(tag) = str::from_utf8(tag) else {
-        return Err(Status::NotUtf8);
-    };
+    let tag = str::from_utf8(tag)?;
     let found = Locale::lookup(tag).ok_or(Status::UnknownLocale)?;
     let Ok(_) = Digits::of_tag(tag) else {
         return Err(Status::UnknownDigits);
@@ -485,10 +510,7 @@ pub fn prints_alike(first: &NumFormat, second: &NumFormat) -> Result<i32, Status
 {
     let (first, digits) = FormatRef::new(first)?;
     let (second, others) = FormatRef::new(second)?;
-    if digits != others {
-        return Ok(0);
-    }
-    Ok(truth(num_format::prints_alike(&first, &second)))
+    Ok(truth(digits == others && num_format::prints_alike(&first, &second)))
 }
 
 /// Returns 1 for `true`, and 0 for `false`.

@@ -1,35 +1,25 @@
 //! What the calls for columns do, with Rust's types.
-ghost use Rattle.std.specs.Prelude.{◌≡◌, ◌≢◌, ℕ, ℤ, ◌+◌, ◌*◌, ◌<◌, ◌≤◌, min, length, pos, IsTrue, MatchOption};
-ghost use Rattle.std.specs.Prelude.{MatchResult};
-ghost use Rattle.num_format.specs.Strict.{IsUnambiguous};
+ghost use Rattle.std.specs.Prelude.{◌≡◌, ◌≢◌, ℕ, ◌+◌, ◌*◌, ◌<◌, ◌≤◌, length, IsTrue};
 ghost use Rattle.num_format.specs.Text.{text_of};
 ghost use Rattle.num_format_decimal.specs.FixedPoint.{fixed_point};
 ghost use Rattle.num_format_decimal.specs.declared.buffer.TheConstants.{MAX_DECIMAL_LEN};
 ghost use Rattle.num_format_decimal.specs.declared.decimal.TheConstants.{MAX_SCALE};
-ghost use Rattle.num_format_digits.specs.Digits.{in_digits};
 ghost use Rattle.num_format_digits.specs.declared.printing.TheConstants.{MAX_DIGIT_TEXT_LEN};
-ghost use Rattle.num_format_c.specs.Calls.{Fails, ParsesInto, at_scale, code, crossing, numbers, returned};
-ghost use Rattle.num_format_c.specs.Calls.{typed_at_scale, typed_numbers};
-ghost use Rattle.num_format_c.specs.Columns.{AreParsed, HasLengths, HasOffsets, Measures, MeasuresDecimals};
-ghost use Rattle.num_format_c.specs.Columns.{MeasuresNumbers, MeasuresValues, ParsesDecimals, ParsesInMode};
-ghost use Rattle.num_format_c.specs.Columns.{ParsesNumbers, ParsesRow, ParsesTypedInto, ParsesUnder, ParsesValues};
-ghost use Rattle.num_format_c.specs.Columns.{PrintsDecimals, PrintsNumbers, PrintsRows, PrintsValues, Row, RowParser};
-ghost use Rattle.num_format_c.specs.Columns.{TypesDecimals};
-ghost use Rattle.num_format_c.specs.Columns.{decimal_at, decimal_units, rows_in, to_parsed, to_printed};
+ghost use Rattle.num_format_c.specs.Calls.{Parses, at_scale, crossing, returned, typed_at_scale};
+ghost use Rattle.num_format_c.specs.Columns.{AreParsed, HasOffsets, Measures, MeasuresDecimals, MeasuresNumbers};
+ghost use Rattle.num_format_c.specs.Columns.{MeasuresValues, ParsesDecimals, ParsesInMode, ParsesNumbers, ParsesRow};
+ghost use Rattle.num_format_c.specs.Columns.{ParsesTyped, ParsesTypedInto, ParsesValues, PrintsDecimals, PrintsNumbers};
+ghost use Rattle.num_format_c.specs.Columns.{PrintsRows, PrintsValues, Row, decimal_at, decimal_units, rows_in};
+ghost use Rattle.num_format_c.specs.Columns.{to_parsed, to_printed};
 ghost use Rattle.num_format_c.specs.FormatRef.{IsFormatIn, IsFormatOf, format_with};
-ghost use Rattle.num_format_c.specs.Layout.{IsEnough, MatchType, number_at, row_bytes, row_count, row_text, texts_of};
-ghost use Rattle.num_format_c.specs.Layout.{value_type_of};
-ghost use Rattle.num_format_c.specs.declared.status.Status.TheVariants.{BadType};
-ghost use Rattle.num_format_decimal.specs.Marks.{MarksDecimals};
-ghost use Rattle.num_format_typed.specs.Typed.{IsTypable};
+ghost use Rattle.num_format_c.specs.Layout.{IsEnough, row_bytes, row_text, texts_of};
 
-use crate::calls::{self, in_others};
+use crate::calls::{self, parse_in, typed_parser};
 use crate::format::{FormatRef, NumFormat};
 use crate::layout::{
-    OffsetType, Printer, Rows, Texts, Value, ValueType, Values, print_texts, row_count, set_value,
-    texts_len,
+    OffsetType, Printer, Rows, Texts, Value, Values, print_texts, row_count, set_value, texts_len,
 };
-use crate::status::{Cause, Status, crossed};
+use crate::status::{Cause, Status};
 use crate::wide::scale_of;
 use num_format::Format;
 use num_format::parsing::StrictParser;
@@ -45,20 +35,21 @@ const STRICT: u32 = 0;
 
 const TYPED: u32 = 2;
 
-/// Calls a function for the integer type that a type of values is.
+/// Calls a function for the integer type for which a number stands: the code of Apache Arrow's letter for it.
 macro_rules! for_type {
-    ($value_type:expr => $call:ident($($argument:expr),*)) => {
-        match $value_type {
-            ValueType::I8 => $call::<i8>($($argument),*),
-            ValueType::U8 => $call::<u8>($($argument),*),
-            ValueType::I16 => $call::<i16>($($argument),*),
-            ValueType::U16 => $call::<u16>($($argument),*),
-            ValueType::I32 => $call::<i32>($($argument),*),
-            ValueType::U32 => $call::<u32>($($argument),*),
-            ValueType::I64 => $call::<i64>($($argument),*),
-            ValueType::U64 => $call::<u64>($($argument),*),
-            ValueType::I128 => $call::<i128>($($argument),*),
-            ValueType::U128 => $call::<u128>($($argument),*),
+    ($code:expr => $call:ident($($argument:expr),*)) => {
+        match $code {
+            0x63 => $call::<i8>($($argument),*),
+            0x43 => $call::<u8>($($argument),*),
+            0x73 => $call::<i16>($($argument),*),
+            0x53 => $call::<u16>($($argument),*),
+            0x69 => $call::<i32>($($argument),*),
+            0x49 => $call::<u32>($($argument),*),
+            0x6C => $call::<i64>($($argument),*),
+            0x4C => $call::<u64>($($argument),*),
+            0x71 => $call::<i128>($($argument),*),
+            0x51 => $call::<u128>($($argument),*),
+            _ => Err(Status::BadType),
         }
     };
 }
@@ -159,20 +150,6 @@ struct DigitPrinter<'a, P: Printer> {
     ghost bound: { P.MOST ≤ MAX_DECIMAL_LEN },
 }
 
-impl<'a, P: Printer> DigitPrinter<'a, P> {
-    /// Returns the text of a row.
-    fn text(&self, row: usize) -> DigitText
-        requires { row < P.rows self.now.printer.now }
-        ensures { result ≡ in_digits self.now.digits (P.text self.now.printer.now row) }
-    {
-        let mut ascii = DecimalBuffer::new();
-        self.printer.print(row, &mut ascii);
-        let mut text = DigitText::new();
-        text.write_text(ascii.as_str(), self.digits);
-        text
-    }
-}
-
 impl<'a, P: Printer> Printer for DigitPrinter<'a, P> {
     ghost rows = { λ p. P.rows p.printer.now };
 
@@ -195,7 +172,11 @@ impl<'a, P: Printer> Printer for DigitPrinter<'a, P> {
     }
 
     fn print<B: PutFront>(&self, row: usize, texts: &mut B) {
-        texts.put_front(self.text(row).as_str());
+        let mut ascii = DecimalBuffer::new();
+        self.printer.print(row, &mut ascii);
+        let mut text = DigitText::new();
+        text.write_text(ascii.as_str(), self.digits);
+        texts.put_front(text.as_str());
     }
 }
 
@@ -212,9 +193,8 @@ pub fn print(
     ensures { PrintsNumbers value_code offset_code format.now values.now
         (to_printed offsets.old bytes.old len.old) (to_printed offsets.new bytes.new len.new) (returned result) }
 {
-    let value_type = ValueType::from_code(value_code).ok_or(Status::BadType)?;
     let offset_type = OffsetType::from_code(offset_code).ok_or(Status::BadType)?;
-    for_type!(value_type => print_numbers(format, values, offset_type, offsets, bytes, len))
+    for_type!(value_code => print_numbers(format, values, offset_type, offsets, bytes, len))
 }
 
 /// Prints the numbers of an integer type.
@@ -321,8 +301,7 @@ pub fn measure(
 ) -> Result<i32, Status>
     ensures { MeasuresNumbers value_code format.now values.now len.old len.new (returned result) }
 {
-    let value_type = ValueType::from_code(value_code).ok_or(Status::BadType)?;
-    for_type!(value_type => measure_numbers(format, values, len))
+    for_type!(value_code => measure_numbers(format, values, len))
 }
 
 /// Writes how many bytes the texts of the numbers of an integer type have.
@@ -409,50 +388,30 @@ impl IntoValue<i128> for Decimal {
 
 /// How a row of a column is parsed.
 trait Parser<N: Value, T: IntoValue<N>> {
+    ghost use Rattle.num_format_c.specs.Columns.{RowParser};
     ghost use Rattle.num_format_c.specs.declared.format.NumFormat.{NumFormat};
 
     ghost IsFor: { Self → NumFormat → Type 0 };
 
-    ghost Parses: { Self → RowParser };
+    ghost Returns: { Self → RowParser T };
 
     /// Returns the number of a text, or why there is none.
     fn parse(&self, text: &[u8]) -> Result<T, Status>
-        ensures { (s : NumFormat) → IsFor self.now s → MatchResult result
-            (λ number. (old : ℤ) → Parses self.now s text.now old (T.number number) (pos 0))
-            (λ status. (old : ℤ) → Parses self.now s text.now old old (code status)) };
+        ensures { (s : NumFormat) → IsFor self.now s → Returns self.now s text.now result };
 }
 
 /// By a format alone, parsing ignores characters that are not numeric.
 impl<'a, N: Value> Parser<N, N> for FormatRef<'a> {
     ghost IsFor = { λ h. IsFormatOf (format_with h.separator h.grouping h.minus_sign h.decimal_mark) };
 
-    ghost Parses = { λ _. ParsesInto N.kind };
+    ghost Returns = { λ _. Parses N.kind N.value };
 
     fn parse(&self, text: &[u8]) -> Result<N, Status> {
         calls::parse_under(self, text)
     }
 }
 
-/// Parses texts in `0` to `9`.
-#[derive(Drop)]
-struct LatinParser<P> {
-    parser: P,
-}
-
-impl<N: Value, T: IntoValue<N>, P: TextParser<T>> Parser<N, T> for LatinParser<P>
-where
-    P::Error: Cause,
-{
-    ghost IsFor = { λ p s. IsFormatIn (P.format p.parser) 48 s };
-
-    ghost Parses = { λ p. Row (crossing (P.way p.parser) P.Error.placed P.Error.status_of P.Error.place_of) T.number };
-
-    fn parse(&self, text: &[u8]) -> Result<T, Status> {
-        crossed(self.parser.parse_text(text), &mut 0)
-    }
-}
-
-/// Parses texts in other digits than `0` to `9`.
+/// Parses texts in a digit set.
 #[derive(Drop)]
 struct DigitParser<P> {
     parser: P,
@@ -463,19 +422,12 @@ impl<N: Value, T: IntoValue<N>, P: TextParser<T>> Parser<N, T> for DigitParser<P
 where
     P::Error: Cause,
 {
-    ghost IsFor = { λ p s. IsFormatIn (P.format p.parser) p.digits s × (P.way p.parser).Takes (P.format p.parser)
-        × (¬ (p.digits ≡ 48)) };
+    ghost IsFor = { λ p s. IsFormatIn (P.format p.parser) p.digits s × (P.way p.parser).Takes (P.format p.parser) };
 
-    ghost Parses = { λ p. Row (crossing (P.way p.parser) P.Error.placed P.Error.status_of P.Error.place_of) T.number };
+    ghost Returns = { λ p. Row (crossing (P.way p.parser) P.Error.placed P.Error.status_of P.Error.place_of) };
 
     fn parse(&self, text: &[u8]) -> Result<T, Status> {
-        if let Some(number) = self.digits.parse_shown_by(text, &self.parser) {
-            return Ok(number);
-        }
-        match in_others(text, self.digits) {
-            None => crossed(self.parser.parse_text(text), &mut 0),
-            Some(text) => crossed(self.digits.parse_by(text, &self.parser), &mut 0),
-        }
+        parse_in(&self.parser, self.digits, text, &mut 0)
     }
 }
 
@@ -492,9 +444,8 @@ pub fn parse(
     ensures { ParsesNumbers value_code offset_code mode format.now texts.now
         (to_parsed values.old statuses.old) (to_parsed values.new statuses.new) (returned result) }
 {
-    let value_type = ValueType::from_code(value_code).ok_or(Status::BadType)?;
     let offset_type = OffsetType::from_code(offset_code).ok_or(Status::BadType)?;
-    for_type!(value_type => parse_numbers(format, mode, offset_type, texts, values, statuses))
+    for_type!(value_code => parse_numbers(format, mode, offset_type, texts, values, statuses))
 }
 
 /// Parses the rows of a column of numbers of an integer type.
@@ -506,53 +457,27 @@ fn parse_numbers<N: Value>(
     values: &mut [u8],
     statuses: &mut [i32],
 ) -> Result<i32, Status>
-    ensures { ParsesInMode mode N.kind N.repr offset_type format.now texts.now
+    ensures { ParsesInMode mode N.kind N.value N.repr offset_type format.now texts.now
         (to_parsed values.old statuses.old) (to_parsed values.new statuses.new) (returned result) }
 {
     match mode {
-        STRICT => parse_strictly::<N>(format, offset_type, texts, values, statuses),
-        TYPED => parse_typed::<N>(format, offset_type, texts, values, statuses),
+        STRICT => {
+            let (format, digits) = FormatRef::new(format)?;
+            let parser = StrictParser::new(&format)?;
+            let parser = DigitParser { parser, digits };
+            parse_column::<N, N, _>(&parser, offset_type, texts, values, statuses)
+        }
+        TYPED => {
+            let (format, digits) = FormatRef::new(format)?;
+            let parser = TypedParser::new(&format)?;
+            let parser = DigitParser { parser, digits };
+            parse_column::<N, N, _>(&parser, offset_type, texts, values, statuses)
+        }
         _ => {
             let format = FormatRef::latin(format)?;
             parse_column::<N, N, _>(&format, offset_type, texts, values, statuses)
         }
     }
-}
-
-/// Parses the rows of a column of numbers strictly.
-fn parse_strictly<N: Value>(
-    format: &NumFormat,
-    offset_type: OffsetType,
-    texts: &Texts,
-    values: &mut [u8],
-    statuses: &mut [i32],
-) -> Result<i32, Status>
-    ensures { ParsesUnder IsUnambiguous (Row (numbers N.kind) (λ z. z)) N.repr offset_type format.now texts.now
-        (to_parsed values.old statuses.old) (to_parsed values.new statuses.new) (returned result) }
-{
-    let (format, digits) = FormatRef::new(format)?;
-    let Ok(parser) = StrictParser::new(&format) else {
-        return Err(Status::AmbiguousFormat);
-    };
-    parse_in::<N, N, _>(parser, digits, offset_type, texts, values, statuses)
-}
-
-/// Parses the rows of a column of numbers as people type them.
-fn parse_typed<N: Value>(
-    format: &NumFormat,
-    offset_type: OffsetType,
-    texts: &Texts,
-    values: &mut [u8],
-    statuses: &mut [i32],
-) -> Result<i32, Status>
-    ensures { ParsesUnder IsTypable (Row (typed_numbers N.kind) (λ z. z)) N.repr offset_type format.now texts.now
-        (to_parsed values.old statuses.old) (to_parsed values.new statuses.new) (returned result) }
-{
-    let (format, digits) = FormatRef::new(format)?;
-    let Ok(parser) = TypedParser::new(&format) else {
-        return Err(Status::AmbiguousFormat);
-    };
-    parse_in::<N, N, _>(parser, digits, offset_type, texts, values, statuses)
 }
 
 /// Parses a text as people type it as a number of a type, writes the bytes of the number, and returns 0.
@@ -564,13 +489,9 @@ pub fn parse_one(
     value: &mut [u8],
     at: &mut usize,
 ) -> Result<i32, Status>
-    ensures { MatchOption (value_type_of value_code)
-        (Fails BadType value.old value.new (returned result) × (at.new ≡ at.old))
-        (λ type. MatchType type
-        (λ v. ParsesTypedInto v v.kind format.now text.now value.old value.new at.old at.new (returned result))) }
+    ensures { ParsesTyped value_code format.now text.now value.old value.new at.old at.new (returned result) }
 {
-    let value_type = ValueType::from_code(value_code).ok_or(Status::BadType)?;
-    for_type!(value_type => parse_number(format, text, value, at))
+    for_type!(value_code => parse_number(format, text, value, at))
 }
 
 /// Parses a text as people type it as a number of an integer type.
@@ -580,7 +501,8 @@ fn parse_number<N: Value>(
     value: &mut [u8],
     at: &mut usize,
 ) -> Result<i32, Status>
-    ensures { ParsesTypedInto N.repr N.kind format.now text.now value.old value.new at.old at.new (returned result) }
+    ensures { ParsesTypedInto N.kind N.value N.repr format.now text.now value.old value.new
+        at.old at.new (returned result) }
 {
     let (format, digits) = FormatRef::new(format)?;
     if value.len() != N::size() {
@@ -604,17 +526,16 @@ pub fn parse_decimals(
     units: &mut [u8],
     statuses: &mut [i32],
 ) -> Result<i32, Status>
-    ensures { ParsesDecimals (at_scale scale) MarksDecimals scale offset_code format.now texts.now
+    ensures { ParsesDecimals (at_scale scale) scale offset_code format.now texts.now
         (to_parsed units.old statuses.old) (to_parsed units.new statuses.new) (returned result) }
 {
     let scale = scale_of(scale)?;
     let offset_type = OffsetType::from_code(offset_code).ok_or(Status::BadType)?;
     let (format, digits) = FormatRef::new(format)?;
-    let Ok(parser) = DecimalParser::new(&format) else {
-        return Err(Status::AmbiguousFormat);
-    };
+    let parser = DecimalParser::new(&format)?;
     let parser = AtScale { parser, scale };
-    parse_in::<i128, Decimal, _>(parser, digits, offset_type, texts, units, statuses)
+    let parser = DigitParser { parser, digits };
+    parse_column::<i128, Decimal, _>(&parser, offset_type, texts, units, statuses)
 }
 
 /// Parses the rows of a column of decimals as people type them, and returns 0.
@@ -626,44 +547,19 @@ pub fn parse_typed_decimals(
     units: &mut [u8],
     statuses: &mut [i32],
 ) -> Result<i32, Status>
-    ensures { ParsesDecimals (typed_at_scale scale) TypesDecimals scale offset_code format.now texts.now
+    ensures { ParsesDecimals (typed_at_scale scale) scale offset_code format.now texts.now
         (to_parsed units.old statuses.old) (to_parsed units.new statuses.new) (returned result) }
 {
     let scale = scale_of(scale)?;
     let offset_type = OffsetType::from_code(offset_code).ok_or(Status::BadType)?;
     let (format, digits) = FormatRef::new(format)?;
-    let Ok(parser) = TypedParser::new(&format) else {
-        return Err(Status::AmbiguousFormat);
-    };
-    if !parser.marks_decimals() {
-        return Err(Status::AmbiguousFormat);
-    }
+    let parser = typed_parser(&format)?;
     let typed = AtScale { parser, scale };
-    parse_in::<i128, Decimal, _>(typed, digits, offset_type, texts, units, statuses)
-}
-
-/// Parses the rows of a column in a digit set, and returns 0.
-fn parse_in<N: Value, T: IntoValue<N>, P: TextParser<T> + Drop>(
-    parser: P,
-    digits: Digits,
-    offset_type: OffsetType,
-    texts: &Texts,
-    values: &mut [u8],
-    statuses: &mut [i32],
-) -> Result<i32, Status>
-where
-    P::Error: Cause,
-    ensures { (s : NumFormat) → IsFormatIn (P.format parser) digits s → (P.way parser).Takes (P.format parser)
-        → ParsesValues (Row (crossing (P.way parser) P.Error.placed P.Error.status_of P.Error.place_of) T.number)
-        N.repr offset_type s texts.now
-        (to_parsed values.old statuses.old) (to_parsed values.new statuses.new) (returned result) }
-{
-    if digits.is_latin() {
-        let parser = LatinParser { parser };
-        return parse_column::<N, T, _>(&parser, offset_type, texts, values, statuses);
-    }
-    let parser = DigitParser { parser, digits };
-    parse_column::<N, T, _>(&parser, offset_type, texts, values, statuses)
+    let parser = DigitParser {
+        parser: typed,
+        digits,
+    };
+    parse_column::<i128, Decimal, _>(&parser, offset_type, texts, units, statuses)
 }
 
 /// Parses the rows of a column, and returns 0. It is a call, so that its loop has the registers for itself.
@@ -676,7 +572,7 @@ fn parse_column<N: Value, T: IntoValue<N>, P: Parser<N, T>>(
     statuses: &mut [i32],
 ) -> Result<i32, Status>
     ensures { (s : NumFormat) → P.IsFor parser.now s
-        → ParsesValues (P.Parses parser.now) N.repr offset_type s texts.now
+        → ParsesValues (P.Returns parser.now) T.number N.repr offset_type s texts.now
         (to_parsed values.old statuses.old) (to_parsed values.new statuses.new) (returned result) }
 {
     let Some(n) = row_count::<N>(values, &texts.validity) else {
@@ -705,7 +601,7 @@ fn parse_rows<N: Value, T: IntoValue<N>, P: Parser<N, T>>(
     requires offsets { IsEnough offset_type (length statuses.old) (length texts.now.offsets.now) }
     requires within { HasOffsets offset_type texts.now (length statuses.old) }
     ensures { (s : NumFormat) → P.IsFor parser.now s
-        → AreParsed (P.Parses parser.now) N.repr offset_type s texts.now
+        → AreParsed (P.Returns parser.now) T.number N.repr offset_type s texts.now
         (to_parsed values.old statuses.old) (to_parsed values.new statuses.new) (length statuses.old) }
 {
     for row in 0..statuses.len() {
@@ -727,8 +623,8 @@ fn parse_row<N: Value, T: IntoValue<N>, P: Parser<N, T>>(
 ) -> i32
     requires { row * N.repr.size + N.repr.size ≤ length values.old }
     ensures parsed { (s : NumFormat) → P.IsFor parser.now s
-        → ParsesRow (P.Parses parser.now) (IsTrue is_valid) s text.now (number_at N.repr values.old row)
-        (number_at N.repr values.new row) result }
+        → ParsesRow (P.Returns parser.now) T.number N.repr (IsTrue is_valid) s text.now
+        (row_bytes N.repr.size values.old row) (row_bytes N.repr.size values.new row) result }
     ensures others { (k : ℕ) → k ≢ row → row_bytes N.repr.size values.new k ≡ row_bytes N.repr.size values.old k }
 {
     if !is_valid {

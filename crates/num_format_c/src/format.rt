@@ -1,5 +1,5 @@
 //! A format in a struct that a C program owns.
-ghost use Rattle.std.specs.Prelude.{◌≡◌, ◌≤◌, take, drop, length, ◌++◌, IsTrue, IsUtf8, MatchResult, Some, ◌↔◌};
+ghost use Rattle.std.specs.Prelude.{◌≡◌, ◌≤◌, take, length, ◌++◌, IsTrue, IsUtf8, MatchResult, Some, ◌↔◌};
 ghost use Rattle.bstr.specs.Utf8.{continues};
 ghost use Rattle.num_format_c.specs.declared.status.Status.TheVariants.{BadFormat};
 ghost use Rattle.num_format_c.specs.FormatRef.{Agrees, HasData, HasFormat, HasLatin, HasTexts, IsFormatIn, IsFormatOf};
@@ -154,14 +154,11 @@ impl<'a> FormatRef<'a> {
         if !format.has_short_texts() && !format.has_texts() {
             return Err(Status::BadFormat);
         }
-        let separator = text_at(&format.separator, format.separator_len);
-        let minus_sign = text_at(&format.minus_sign, format.minus_sign_len);
-        let decimal_mark = text_at(&format.decimal_mark, format.decimal_mark_len);
         Ok(FormatRef {
-            separator: SeparatorStr::of(separator),
+            separator: SeparatorStr::of(text_at(&format.separator, format.separator_len)),
             grouping,
-            minus_sign: MinusSignStr::of(minus_sign),
-            decimal_mark: DecimalStr::of(decimal_mark),
+            minus_sign: MinusSignStr::of(text_at(&format.minus_sign, format.minus_sign_len)),
+            decimal_mark: DecimalStr::of(text_at(&format.decimal_mark, format.decimal_mark_len)),
         })
     }
 }

@@ -14,5 +14,5 @@ pub use offset::OffsetType;
 pub use printing::{Printer, print_texts, texts_len};
 pub use texts::Texts;
 pub use validity::Validity;
-pub use value::{Value, ValueType, row_count, set_value, value_at};
+pub use value::{Value, row_count, set_value, value_at};
 pub use values::{Rows, Values};

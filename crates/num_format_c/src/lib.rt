@@ -6,9 +6,8 @@
 //! crosses to C: errors, and numbers of 128 bits by their halves.
 //!
 //! What programs are compiled with stays: the exports and their parameters, the fields of `NumFormat`, and the numbers
-//! of [`Status`](status::Status), `ValueType`, `OffsetType`, groupings and roundings. A change there is one of
-//! `num_format.h` too.
-//! All else may be changed.
+//! of [`Status`](status::Status), types, groupings and roundings. A change there is one of `num_format.h` too. All else
+//! may be changed.
 //!
 //! The header says what a C program has to know, and what it must ensure. The contracts here say
 //! what each call returns and writes, for any bytes of a struct and of a text.
@@ -18,25 +17,21 @@
 //! it was, but for the place of an unexpected byte.
 #![tactic(auto)]
 
-ghost use Rattle.std.specs.Prelude.{◌≡◌, ◌+◌, ◌*◌, ◌^◌, codes, pos, MatchOption};
+ghost use Rattle.std.specs.Prelude.{◌≡◌, ◌+◌, ◌*◌, ◌^◌, codes, pos};
 ghost use Rattle.num_format.specs.Alike.{Alike};
 ghost use Rattle.num_format.specs.Kind.{kind_of, I128, U128};
-ghost use Rattle.num_format.specs.Names.{name_of};
 ghost use Rattle.num_format.specs.RoundTrips.{RoundTrips};
 ghost use Rattle.num_format.specs.Text.{text_of};
-ghost use Rattle.num_format_decimal.specs.Marks.{MarksDecimals};
 ghost use Rattle.num_format_decimal.specs.Values.{minus, plus};
 ghost use Rattle.num_format_c.specs.Arithmetic.{Compares, Computes, Rescales, rounding_of};
-ghost use Rattle.num_format_c.specs.Calls.{ByTag, Fails, FillsByTag, FillsCustom, FillsLocale, NamesByTag};
-ghost use Rattle.num_format_c.specs.Calls.{ReturnsDecimalLength, ReturnsLength, Into, ParsesInto, Prints};
-ghost use Rattle.num_format_c.specs.Calls.{PrintsDecimal, SetsDigits, Tells, WritesName, at_scale, decimal_of};
-ghost use Rattle.num_format_c.specs.Calls.{decimals, numbers, signed_kind, signed_wide, columns_of, typed_at_scale};
+ghost use Rattle.num_format_c.specs.Calls.{ByTag, FillsByTag, FillsCustom, FillsLocale, GetsBits, Into, NamesByTag};
+ghost use Rattle.num_format_c.specs.Calls.{Parses, ParsesBits, ParsesInto, Prints, PrintsDecimal, ReturnsDecimalLength};
+ghost use Rattle.num_format_c.specs.Calls.{ReturnsLength, SetsDigits, Tells, WritesName, at_scale, columns_of};
+ghost use Rattle.num_format_c.specs.Calls.{decimal_of, decimals, numbers, signed_kind, signed_wide, typed_at_scale};
 ghost use Rattle.num_format_c.specs.Calls.{typed_decimals, unsigned_kind, unsigned_wide};
 ghost use Rattle.num_format_c.specs.Columns.{MeasuresDecimals, MeasuresNumbers, ParsesDecimals, ParsesNumbers};
-ghost use Rattle.num_format_c.specs.Columns.{ParsesTypedInto, PrintsDecimals, PrintsNumbers, TypesDecimals, to_parsed};
-ghost use Rattle.num_format_c.specs.Columns.{to_printed};
-ghost use Rattle.num_format_c.specs.Layout.{MatchType, to_texts, to_values, value_type_of};
-ghost use Rattle.num_format_c.specs.declared.status.Status.TheVariants.{BadBits, BadType};
+ghost use Rattle.num_format_c.specs.Columns.{ParsesTyped, PrintsDecimals, PrintsNumbers, to_parsed, to_printed};
+ghost use Rattle.num_format_c.specs.Layout.{to_texts, to_values};
 ghost use Rattle.num_format_c.specs.FormatRef.{HasFormat, HasLatin, digits_of, format_of};
 
 mod arithmetic;
@@ -53,15 +48,12 @@ use layout::{Texts, Values};
 use status::{returned, stored};
 use wide::{joined, stored_decimal, stored_wide};
 
-/// The version: 10,000 times its first number, 100 times its second, and its third.
-const VERSION: u32 = 100;
-
 /// Returns the version of the library: 10,000 times its first number, 100 times its second, and its third.
 #[unsafe(no_mangle)]
 pub extern "C" fn num_format_version() -> u32
     ensures { result ≡ 100 }
 {
-    VERSION
+    100
 }
 
 /// Fills the struct with the format of the locale that the name spells, and returns 0.
@@ -154,7 +146,7 @@ pub extern "C" fn num_format_print_u128(
     high: u64,
     text: &mut [u8],
 ) -> i32
-    ensures { Prints format.now (unsigned_wide low high) text.old text.new result }
+    ensures { Prints format.now (pos (unsigned_wide low high)) text.old text.new result }
 {
     returned(calls::print(format, &joined(low, high), text))
 }
@@ -212,7 +204,7 @@ pub extern "C" fn num_format_print_u64_len(format: &NumFormat, number: u64) -> i
 /// Returns the length of the text that [`num_format_print_u128`] prints, as [`num_format_print_i64_len`] does.
 #[unsafe(no_mangle)]
 pub extern "C" fn num_format_print_u128_len(format: &NumFormat, low: u64, high: u64) -> i32
-    ensures { ReturnsLength format.now (λ f. text_of f (unsigned_wide low high)) result }
+    ensures { ReturnsLength format.now (λ f. text_of f (pos (unsigned_wide low high))) result }
 {
     returned(calls::text_len(format, &joined(low, high)))
 }
@@ -260,10 +252,10 @@ pub extern "C" fn num_format_parse_i64(
     text: &[u8],
     number: &mut i64,
 ) -> i32
-    ensures { MatchOption (signed_kind bits) (Fails BadBits number.old number.new result)
-        (λ k. ParsesInto k format.now text.now number.old number.new result) }
+    ensures { ParsesInto (ParsesBits (signed_kind bits) (λ n. n) format.now text.now)
+        number.old number.new result }
 {
-    stored(calls::parse_signed(format, bits, text), number)
+    returned(stored(calls::parse_signed(format, bits, text), number))
 }
 
 /// Parses the text as an unsigned number, as [`num_format_parse_i64`] does as a signed one.
@@ -274,10 +266,10 @@ pub extern "C" fn num_format_parse_u64(
     text: &[u8],
     number: &mut u64,
 ) -> i32
-    ensures { MatchOption (unsigned_kind bits) (Fails BadBits (pos number.old) (pos number.new) result)
-        (λ k. ParsesInto k format.now text.now (pos number.old) (pos number.new) result) }
+    ensures { ParsesInto (ParsesBits (unsigned_kind bits) (λ n. pos n) format.now text.now)
+        number.old number.new result }
 {
-    stored(calls::parse_unsigned(format, bits, text), number)
+    returned(stored(calls::parse_unsigned(format, bits, text), number))
 }
 
 /// Parses the text as a `u128`, writes the halves of the number, and returns 0.
@@ -290,10 +282,10 @@ pub extern "C" fn num_format_parse_u128(
     low: &mut u64,
     high: &mut u64,
 ) -> i32
-    ensures { ParsesInto (kind_of U128) format.now text.now
+    ensures { ParsesInto (Parses (kind_of U128) (λ n. pos n) format.now text.now)
         (unsigned_wide low.old high.old) (unsigned_wide low.new high.new) result }
 {
-    stored_wide(calls::parse::<u128>(format, text), low, high)
+    returned(stored_wide(calls::parse::<u128>(format, text), low, high))
 }
 
 /// Parses the text as an `i128`, writes the halves of its two's complement, and returns 0.
@@ -306,10 +298,10 @@ pub extern "C" fn num_format_parse_i128(
     low: &mut u64,
     high: &mut u64,
 ) -> i32
-    ensures { ParsesInto (kind_of I128) format.now text.now
+    ensures { ParsesInto (Parses (kind_of I128) (λ n. n) format.now text.now)
         (signed_wide low.old high.old) (signed_wide low.new high.new) result }
 {
-    stored_wide(calls::parse::<i128>(format, text), low, high)
+    returned(stored_wide(calls::parse::<i128>(format, text), low, high))
 }
 
 /// Parses the text strictly as a signed number of 8, 16, 32 or 64 bits, writes the number, and returns 0.
@@ -324,11 +316,10 @@ pub extern "C" fn num_format_parse_strict_i64(
     number: &mut i64,
     at: &mut usize,
 ) -> i32
-    ensures { MatchOption (signed_kind bits)
-        (Fails BadBits number.old number.new result × (at.new ≡ at.old))
-        (λ k. Into (numbers k) (λ z. z) format.now text.now number.old number.new at.old at.new result) }
+    ensures { ParsesInto (GetsBits (signed_kind bits) (λ n. n) format.now text.now at.old at.new)
+        number.old number.new result }
 {
-    stored(calls::parse_strict_signed(format, bits, text, at), number)
+    returned(stored(calls::parse_strict_signed(format, bits, text, at), number))
 }
 
 /// Parses the text strictly as an unsigned number, as [`num_format_parse_strict_i64`] does as a signed one.
@@ -340,11 +331,10 @@ pub extern "C" fn num_format_parse_strict_u64(
     number: &mut u64,
     at: &mut usize,
 ) -> i32
-    ensures { MatchOption (unsigned_kind bits)
-        (Fails BadBits (pos number.old) (pos number.new) result × (at.new ≡ at.old))
-        (λ k. Into (numbers k) (λ z. z) format.now text.now (pos number.old) (pos number.new) at.old at.new result) }
+    ensures { ParsesInto (GetsBits (unsigned_kind bits) (λ n. pos n) format.now text.now at.old at.new)
+        number.old number.new result }
 {
-    stored(calls::parse_strict_unsigned(format, bits, text, at), number)
+    returned(stored(calls::parse_strict_unsigned(format, bits, text, at), number))
 }
 
 /// Parses the text strictly as a `u128`, writes the halves of the number, and returns 0.
@@ -358,10 +348,10 @@ pub extern "C" fn num_format_parse_strict_u128(
     high: &mut u64,
     at: &mut usize,
 ) -> i32
-    ensures { Into (numbers (kind_of U128)) (λ z. z) format.now text.now
+    ensures { Into (numbers (kind_of U128) (λ n. pos n)) format.now text.now
         (unsigned_wide low.old high.old) (unsigned_wide low.new high.new) at.old at.new result }
 {
-    stored_wide(calls::parse_strict::<u128>(format, text, at), low, high)
+    returned(stored_wide(calls::parse_strict::<u128>(format, text, at), low, high))
 }
 
 /// Parses the text strictly as an `i128`, writes the halves of its two's complement, and returns 0.
@@ -375,10 +365,10 @@ pub extern "C" fn num_format_parse_strict_i128(
     high: &mut u64,
     at: &mut usize,
 ) -> i32
-    ensures { Into (numbers (kind_of I128)) (λ z. z) format.now text.now
+    ensures { Into (numbers (kind_of I128) (λ n. n)) format.now text.now
         (signed_wide low.old high.old) (signed_wide low.new high.new) at.old at.new result }
 {
-    stored_wide(calls::parse_strict::<i128>(format, text, at), low, high)
+    returned(stored_wide(calls::parse_strict::<i128>(format, text, at), low, high))
 }
 
 /// Parses the text strictly as a decimal, writes the halves of its units in two's complement and its scale, and
@@ -395,14 +385,14 @@ pub extern "C" fn num_format_parse_decimal(
     scale: &mut u32,
     at: &mut usize,
 ) -> i32
-    ensures { Into decimals (λ d. d) format.now text.now
+    ensures { Into decimals format.now text.now
         (decimal_of low.old high.old scale.old) (decimal_of low.new high.new scale.new) at.old at.new result }
 {
-    stored_decimal(calls::parse_decimal(format, text, at), low, high, scale)
+    returned(stored_decimal(calls::parse_decimal(format, text, at), low, high, scale))
 }
 
 /// Parses the text as a person types it (no data type is meant) as a number of a type, as
-/// [`ValueType`](layout::ValueType) says, writes its bytes in the machine's order, and returns 0.
+/// [`num_format_print_column`] says, writes its bytes in the machine's order, and returns 0.
 ///
 /// Errors, in this order: a number of no type, a struct that has no format, another number of bytes than the type has,
 /// and those of [`TypedError`](num_format_typed::TypedError). The place of an unexpected byte is written.
@@ -414,9 +404,7 @@ pub extern "C" fn num_format_parse_typed(
     value: &mut [u8],
     at: &mut usize,
 ) -> i32
-    ensures { MatchOption (value_type_of value_type) (Fails BadType value.old value.new result × (at.new ≡ at.old))
-        (λ type. MatchType type
-        (λ v. ParsesTypedInto v v.kind format.now text.now value.old value.new at.old at.new result)) }
+    ensures { ParsesTyped value_type format.now text.now value.old value.new at.old at.new result }
 {
     returned(columns::parse_one(format, value_type, text, value, at))
 }
@@ -434,11 +422,11 @@ pub extern "C" fn num_format_parse_typed_decimal(
     scale: &mut u32,
     at: &mut usize,
 ) -> i32
-    ensures { Into typed_decimals (λ d. d) format.now text.now
+    ensures { Into typed_decimals format.now text.now
         (decimal_of low.old high.old scale.old) (decimal_of low.new high.new scale.new) at.old at.new result }
 {
     let parsed = calls::parse_typed_decimal(format, text, at);
-    stored_decimal(parsed, low, high, scale)
+    returned(stored_decimal(parsed, low, high, scale))
 }
 
 /// Adds a decimal to the one whose units have the halves `low` and `high`, writes the sum in its place, and returns 0.
@@ -516,9 +504,9 @@ pub extern "C" fn num_format_decimal_compare(
 /// Prints the numbers of a column one after another at the start of the bytes, writes where each text ends and how
 /// many bytes they have together, and returns 0. A null row has an empty text.
 ///
-/// The types are numbers, as [`ValueType`](layout::ValueType) and [`OffsetType`](layout::OffsetType) say, and the
-/// values and the offsets are bytes, in the machine's order. There is one offset more than rows, and the first is 0.
-/// Where there are no bits, no row is null; else row k is null if bit `bit_offset + k` is not set.
+/// A type is a number: the code of Apache Arrow's letter for it, or of `q` or `Q` for 128 bits. The values and the
+/// offsets are bytes, in the machine's order. There is one offset more than rows, and the first is 0. Where there are
+/// no bits, no row is null; else row k is null if bit `bit_offset + k` is not set.
 ///
 /// Errors, in this order: a number of no type, a struct that has no format, values that are not those of whole
 /// rows, another number of offsets or fewer bits than the rows need, more bytes than the last offset can say, an
@@ -657,7 +645,7 @@ pub extern "C" fn num_format_parse_decimal_column(
     bit_offset: usize,
     statuses: &mut [i32],
 ) -> i32
-    ensures { ParsesDecimals (at_scale scale) MarksDecimals scale offset_type format.now
+    ensures { ParsesDecimals (at_scale scale) scale offset_type format.now
         (to_texts offsets.entry bytes.entry bits.entry bit_offset)
         (to_parsed units.old statuses.old) (to_parsed units.new statuses.new) result }
 {
@@ -679,7 +667,7 @@ pub extern "C" fn num_format_parse_typed_decimal_column(
     bit_offset: usize,
     statuses: &mut [i32],
 ) -> i32
-    ensures { ParsesDecimals (typed_at_scale scale) TypesDecimals scale offset_type format.now
+    ensures { ParsesDecimals (typed_at_scale scale) scale offset_type format.now
         (to_texts offsets.entry bytes.entry bits.entry bit_offset)
         (to_parsed units.old statuses.old) (to_parsed units.new statuses.new) result }
 {

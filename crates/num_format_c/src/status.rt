@@ -1,15 +1,16 @@
 //! The errors of the calls, and the numbers by which they cross to C.
 ghost use Rattle.std.specs.Prelude.{◌≡◌};
-ghost use Rattle.num_format_c.specs.Calls.{Stores, at_scale_place_of, at_scale_status_of, code, crossed};
-ghost use Rattle.num_format_c.specs.Calls.{digits_place_of, digits_status_of, place_after, place_of};
+ghost use Rattle.num_format_c.specs.Calls.{Crosses, Stores, at_scale_place_of, at_scale_status_of, code};
+ghost use Rattle.num_format_c.specs.Calls.{digits_place_of, digits_status_of, place_of};
 ghost use Rattle.num_format_c.specs.Calls.{rescale_status_of, returned, status_of};
 ghost use Rattle.num_format_c.specs.Calls.{typed_place_of, typed_status_of};
+ghost use Rattle.num_format_c.specs.declared.status.Status.TheVariants.{NotUtf8};
 
 use num_format::parsing::StrictError;
 use num_format_decimal::{DecimalError, ParseAtScaleError};
 use num_format_digits::DigitsError;
-use num_format_int::sealed::Sealed;
 use num_format_typed::TypedError;
+use std::str::Utf8Error;
 
 /// Why a call failed.
 #[derive(Clone, Copy, Debug, PartialEq, Eq)]
@@ -68,6 +69,22 @@ impl Status {
         ensures { result ≡ code self }
     {
         self as i32
+    }
+}
+
+impl From<Utf8Error> for Status {
+    ghost from_gives = { λ _ status. status ≡ NotUtf8 };
+
+    fn from(_: Utf8Error) -> Status {
+        Status::NotUtf8
+    }
+}
+
+impl From<StrictError> for Status {
+    ghost from_gives = { λ error status. status ≡ status_of error };
+
+    fn from(error: StrictError) -> Status {
+        error.status(&mut 0)
     }
 }
 
@@ -176,8 +193,7 @@ impl<E: Cause> Cause for DigitsError<E> {
 /// Returns what parsing returned, with a status for an error, and writes the place of an unexpected byte.
 #[inline(always)]
 pub fn crossed<T, E: Cause>(parsed: Result<T, E>, at: &mut usize) -> Result<T, Status>
-    ensures result { result ≡ crossed E.status_of parsed }
-    ensures place { at.new ≡ place_after E.place_of parsed at.old }
+    ensures { Crosses E.status_of E.place_of parsed at.old at.new result }
 {
     match parsed {
         Ok(value) => Ok(value),
@@ -185,15 +201,10 @@ pub fn crossed<T, E: Cause>(parsed: Result<T, E>, at: &mut usize) -> Result<T, S
     }
 }
 
-/// Writes the number that was parsed, and returns 0, or the number of the error.
-pub fn stored<N: Sealed + Copy>(parsed: Result<N, Status>, number: &mut N) -> i32
-    ensures { Stores N.value parsed (N.value number.old) (N.value number.new) result }
+/// Writes the number that was parsed, and returns 0.
+pub fn stored<N: Copy>(parsed: Result<N, Status>, number: &mut N) -> Result<i32, Status>
+    ensures { Stores parsed number.old number.new (returned result) }
 {
-    match parsed {
-        Ok(parsed) => {
-            *number = parsed;
-            0
-        }
-        Err(status) => status.code(),
-    }
+    *number = parsed?;
+    Ok(0)
 }

@@ -1,38 +1,37 @@
 //! Numbers of 128 bits and decimals by halves, as they cross to C.
-ghost use Rattle.std.specs.Prelude.{◌≡◌, ℕ, ℤ, ◌+◌, ◌*◌, ◌^◌, ◌<◌, ◌≤◌, MatchResult};
+ghost use Rattle.std.specs.Prelude.{◌≡◌, ℕ, ◌<◌, ◌≤◌, MatchResult};
 ghost use Rattle.num_format_decimal.specs.declared.decimal.TheConstants.{MAX_SCALE};
-ghost use Rattle.num_format_c.specs.Calls.{Stores, decimal_of, signed_wide, unsigned_wide};
+ghost use Rattle.num_format_c.specs.Calls.{Stores, decimal_of, returned, signed_wide, unsigned_wide};
 ghost use Rattle.num_format_c.specs.declared.status.Status.TheVariants.{BadScale};
 
 use crate::status::Status;
 use num_format_decimal::{Decimal, MAX_SCALE};
-use num_format_int::sealed::Sealed;
 
 /// The first number that a half does not hold.
 const HALF: u128 = 1 << 64;
 
 /// Returns the number of two halves.
 pub fn joined(low: u64, high: u64) -> u128
-    ensures { result ≡ low + high * 2 ^ 64 }
+    ensures { result ≡ unsigned_wide low high }
 {
     high as u128 * HALF + low as u128
 }
 
 /// Writes the halves of a number.
 fn split(number: u128, low: &mut u64, high: &mut u64)
-    ensures { low.new + high.new * 2 ^ 64 ≡ number }
+    ensures { unsigned_wide low.new high.new ≡ number }
 {
     *low = (number % HALF) as u64;
     *high = (number / HALF) as u64;
 }
 
 /// A number of 128 bits, which has two halves.
-pub trait Wide: Sealed + Copy {
-    ghost of_halves: { ℕ → ℕ → ℤ };
+pub trait Wide: Copy {
+    ghost of_halves: { ℕ → ℕ → Self };
 
     /// Writes the halves of the number.
     fn split(self, low: &mut u64, high: &mut u64)
-        ensures { of_halves low.new high.new ≡ Self.value self };
+        ensures { of_halves low.new high.new ≡ self };
 }
 
 impl Wide for u128 {
@@ -51,17 +50,16 @@ impl Wide for i128 {
     }
 }
 
-/// Writes the halves of the number that was parsed, and returns 0, or the number of the error.
-pub fn stored_wide<N: Wide>(parsed: Result<N, Status>, low: &mut u64, high: &mut u64) -> i32
-    ensures { Stores N.value parsed (N.of_halves low.old high.old) (N.of_halves low.new high.new) result }
+/// Writes the halves of the number that was parsed, and returns 0.
+pub fn stored_wide<N: Wide>(
+    parsed: Result<N, Status>,
+    low: &mut u64,
+    high: &mut u64,
+) -> Result<i32, Status>
+    ensures { Stores parsed (N.of_halves low.old high.old) (N.of_halves low.new high.new) (returned result) }
 {
-    match parsed {
-        Ok(parsed) => {
-            parsed.split(low, high);
-            0
-        }
-        Err(status) => status.code(),
-    }
+    parsed?.split(low, high);
+    Ok(0)
 }
 
 /// Returns the scale, or an error if it is too large.
@@ -85,29 +83,18 @@ pub fn decimal_of(low: u64, high: u64, scale: u32) -> Result<Decimal, Status>
     Ok(Decimal::new(joined(low, high).cast_signed(), scale)?)
 }
 
-/// Writes the halves of the units and the scale of a decimal.
-pub fn store_decimal(number: Decimal, low: &mut u64, high: &mut u64, scale: &mut u32)
-    ensures { decimal_of low.new high.new scale.new ≡ number }
-{
-    number.units().split(low, high);
-    *scale = number.scale() as u32;
-}
-
-/// Writes the decimal that was parsed, and returns 0, or the number of the error.
+/// Writes the halves of the units and the scale of a decimal, and returns 0.
 pub fn stored_decimal(
-    parsed: Result<Decimal, Status>,
+    number: Result<Decimal, Status>,
     low: &mut u64,
     high: &mut u64,
     scale: &mut u32,
-) -> i32
-    ensures { Stores (λ d. d) parsed (decimal_of low.old high.old scale.old)
-        (decimal_of low.new high.new scale.new) result }
+) -> Result<i32, Status>
+    ensures { Stores number (decimal_of low.old high.old scale.old) (decimal_of low.new high.new scale.new)
+        (returned result) }
 {
-    match parsed {
-        Ok(parsed) => {
-            store_decimal(parsed, low, high, scale);
-            0
-        }
-        Err(status) => status.code(),
-    }
+    let number = number?;
+    number.units().split(low, high);
+    *scale = number.scale() as u32;
+    Ok(0)
 }

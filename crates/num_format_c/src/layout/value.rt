@@ -2,47 +2,10 @@
 ghost use Rattle.std.specs.Prelude.{◌≡◌, ◌≢◌, ℕ, ◌+◌, ◌*◌, ◌<◌, ◌≤◌, length};
 ghost use Rattle.std.specs.Int.{w8, w16, w32, w64, w128};
 ghost use Rattle.num_format_c.specs.Layout.{Representation, number_at, row_bytes, row_count, signed, unsigned};
-ghost use Rattle.num_format_c.specs.Layout.{value_type_of};
 ghost use Rattle.num_format.specs.Kind.{I8, U8, I16, U16, I32, U32, I64, U64, I128, U128};
 
 use super::validity::Validity;
 use num_format_int::sealed::Sealed;
-
-/// The type of the values of a column.
-#[derive(Clone, Copy, Debug, PartialEq, Eq)]
-pub enum ValueType {
-    I8,
-    U8,
-    I16,
-    U16,
-    I32,
-    U32,
-    I64,
-    U64,
-    I128,
-    U128,
-}
-
-impl ValueType {
-    /// Returns the type for which the number stands: the code of Apache Arrow's letter for it.
-    pub fn from_code(code: u32) -> Option<ValueType>
-        ensures { result ≡ value_type_of code }
-    {
-        match code {
-            0x63 => Some(ValueType::I8),
-            0x43 => Some(ValueType::U8),
-            0x73 => Some(ValueType::I16),
-            0x53 => Some(ValueType::U16),
-            0x69 => Some(ValueType::I32),
-            0x49 => Some(ValueType::U32),
-            0x6C => Some(ValueType::I64),
-            0x4C => Some(ValueType::U64),
-            0x71 => Some(ValueType::I128),
-            0x51 => Some(ValueType::U128),
-            _ => None,
-        }
-    }
-}
 
 /// An integer that is read from bytes and written to bytes, in the machine's order and at any alignment.
 pub trait Value: Sealed + Copy {
