@@ -11,8 +11,8 @@ two programs differ, no row can be:
 
 - numfmt ends at a line at fault with a message and status 2, and prints the line without its newline before that.
   regroup-lines has status 1, and does not print the line.
-- numfmt takes blanks for ends of fields where no delimiter is given. Else it pads a number up to the width that it had
-  with its blanks. With a delimiter it refuses blanks after a number.
+- numfmt takes blanks for ends of fields where no delimiter is given, as --blanks takes spaces, and pads a number up to
+  the width that it had with its blanks. With a delimiter it refuses blanks after a number.
 - numfmt computes in floating point: it prints 1,234.06 of `1234.05`, and refuses numbers of 20 digits. It prints 0 of
   `-0`, 7 of `007` and 0.5 of `.5`, which regroup-lines refuses.
 - numfmt writes numbers with a separator that is the delimiter too. regroup-lines refuses such a format.

@@ -45,11 +45,11 @@ pub use Rattle.regroup_lines.specs.Lines.{
   Sent,
   Stop,
   after,
+  all_written,
   begins_with_mark,
   between,
   body_sent,
   body_written,
-  chosen_of,
   chosen_replaced,
   decimal_written,
   fault_named,
@@ -59,6 +59,7 @@ pub use Rattle.regroup_lines.specs.Lines.{
   fields_of,
   fields_replaced,
   fields_written,
+  followed,
   header_written,
   joined,
   lenient,
@@ -93,7 +94,8 @@ pub use Rattle.regroup_lines.specs.Lines.{
 }
 pub use Rattle.regroup_lines.specs.Lines.Stop.{Ended, Endless, Failed, Unflushed, Unread}
 pub use Rattle.regroup_faults.specs.Messages.{fault_message, messages}
-pub use Rattle.regroup_lines.specs.Places.{are_enough, field_count, is_at_most, is_chosen, is_chosen_from, is_enough, one_field, trimmed}
+pub use Rattle.regroup_lines.specs.Places.{are_enough, field_count, is_at_most, is_chosen, is_chosen_field, is_chosen_from, is_counted}
+pub use Rattle.regroup_lines.specs.Places.{is_enough, number_of, one_field, trimmed, without_affixes}
 pub use Rattle.regroup_lines.specs.Records.{Searched, after_bare, after_byte, after_record_byte, after_text, has_end, is_inside, is_open}
 pub use Rattle.regroup_lines.specs.Records.{is_quote, line_reached, lines_ended, next_line, record_start, split_at}
 pub use Rattle.regroup_lines.specs.Sending.{Names, PassesLong, Receives, ReceivesBytes, ReceivesEach, ReceivesPrefix, Regroups}
@@ -102,10 +104,10 @@ pub use Rattle.regroup_lines.specs.Sending.{failed_by, failed_writer, text_to}
 pub use Rattle.regroup_lines.specs.Sending.Writer.{Messages, Output, Rejects}
 pub use Rattle.regroup_lines.specs.declared.Summary.{Summary}
 pub use Rattle.regroup_lines.specs.declared.input.Input.{Input}
-pub use Rattle.regroup_lines.specs.declared.input.Piece.{Piece}
+pub use Rattle.regroup_lines.specs.declared.input.InputPiece.{InputPiece}
 pub use Rattle.regroup_lines.specs.declared.line_fault.LineFault.{LineFault}
-pub use Rattle.regroup_lines.specs.declared.records.Within.{Within}
-pub use Rattle.regroup_lines.specs.declared.records.Within.TheVariants.{Start}
+pub use Rattle.regroup_lines.specs.declared.records.CsvState.{CsvState}
+pub use Rattle.regroup_lines.specs.declared.records.CsvState.TheVariants.{Start}
 pub use Rattle.regroup_faults.specs.declared.Reading.{Reading}
 pub use Rattle.regroup_faults.specs.Reading.{at_scale, read_by, whole_read}
 pub use Rattle.regroup_lines.specs.declared.rules.Rules.{Rules}

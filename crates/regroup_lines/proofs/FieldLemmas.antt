@@ -1,8 +1,10 @@
 -- What becomes of the fields of a line, field after field.
 use Rattle.regroup_lines.proofs.Common.{fold, Some, Bool, Err, Fault, Fields, FieldRange, NotationData, List, None, Ok, Option, Result}
-use Rattle.regroup_lines.proofs.Common.{Rules, Start, Within, [], after, ap, append-nil, append_assoc, are_enough, arith, drop, drop-drop}
-use Rattle.regroup_lines.proofs.Common.{drop_more, Decides-ltb, false, field_written, fields_of, fields_written, get_or, is_chosen}
-use Rattle.regroup_lines.proofs.Common.{is_chosen_from, join_with_byte, le-leb, leb-false, length, line_ended, lt-leb, ltb-false, nat_lt}
+use Rattle.regroup_lines.proofs.Common.{Rules, Start, CsvState, [], after, ap, append-nil, append_assoc, are_enough, arith, drop, drop-drop}
+use Rattle.regroup_lines.proofs.Common.{drop_more, Decides-ltb, false, field_written, fields_of, fields_written, followed, get_or}
+use Rattle.regroup_lines.proofs.Common.{is_chosen}
+use Rattle.regroup_lines.proofs.Common.{if◌then◌else◌, is_chosen_field, is_chosen_from, is_counted, join_with_byte, le-leb, leb-false}
+use Rattle.regroup_lines.proofs.Common.{length, line_ended, lt-leb, ltb-false, nat_lt, number_of}
 use Rattle.regroup_lines.proofs.Common.{output_delimiter, quotes_of, refl, result_map_both, inl, inr, slice_range, subst, sym, take}
 use Rattle.regroup_lines.proofs.Common.{take_rest, true, with_first, ⊤, ℕ, ◌&&◌, ◌++◌, ◌+◌, ◌-◌, ◌<◌, ◌∙◌, ◌∷◌, ◌≡◌, ◌≤◌, length-drop}
 use Rattle.regroup_lines.proofs.AddLemmas.{adds_nil, adds_trans, AddsIf-after, after-after, after-nil}
@@ -28,10 +30,31 @@ enough-all : (list : List FieldRange) (count : ℕ) → is_chosen_from list (cou
 enough-all [] count past = refl
 enough-all (range ∷ list) count past = grind (arith, leb-false, le-leb, enough-all list count)
 
+-- what is true of a field that is counted, and of another one
+pub number-by : (P : ℕ → Bool → Type 0) (blanks : Bool) (before : ℕ) (field : List ℕ) → P (before + 1) true → P before false
+    → P (number_of blanks before field) (is_counted blanks field)
+number-by P blanks before field counted other = by (is_counted blanks field)
+  where
+    by : (is : Bool) → P (if is then before + 1 else before) is
+    by true = counted
+    by false = other
+
+-- where no range reaches a number, the next field is not chosen, nor one after it
+pub past-field : (list : List FieldRange) (blanks : Bool) (count : ℕ) (field : List ℕ) → is_chosen_from list (count + 1) ≡ false
+    → is_chosen_field list blanks (number_of blanks count field) field ≡ false
+past-field list blanks count field past =
+    number-by (λ n is. (is_chosen list n && is) ≡ false) blanks count field (rw (chosen-none list (count + 1) past) refl)
+    (and_false _ false refl)
+
+pub past-later : (list : List FieldRange) (blanks : Bool) (count : ℕ) (field : List ℕ) → is_chosen_from list (count + 1) ≡ false
+    → is_chosen_from list (number_of blanks count field + 1) ≡ false
+past-later list blanks count field past =
+    number-by (λ n is. is_chosen_from list (n + 1) ≡ false) blanks count field (chosen_from-later list (count + 1) past) past
+
 -- the bytes of each field from one number on and before the next one are passed on, or of each from that one on
 abbrev pub IsNext : Fields → (from : ℕ) → (next : Option ℕ) → Type 0
 IsNext cs from None = (cs.output ≡ None) × (is_chosen_from cs.list.now from ≡ false)
-IsNext cs from (Some next) = (n : ℕ) → from ≤ n → n < next → (cs.output ≡ None) × (is_chosen cs.list.now n ≡ false)
+IsNext cs from (Some next) = (0 < next → cs.output ≡ None) × ((n : ℕ) → from ≤ n → n < next → is_chosen cs.list.now n ≡ false)
 
 module _ (from : ℕ) where
   abbrev Below : ℕ → Option ℕ → Type 0
@@ -60,18 +83,33 @@ next-is cs from = by cs.output refl
   where
     of : (next : Option ℕ) → cs.output ≡ None → IsLeast from cs.list.now None next → IsNext cs from next
     of None none least = (none, least.1)
-    of (Some next) none least = λ n low below. (none, (least n low below).1)
+    of (Some next) none least = ((λ some. none), (λ n low below. (least n low below).1))
 
     by : (output : Option Output) → cs.output ≡ output → IsNext cs from (next_of output cs.list.now from)
     by None is = of (fold (least_of from) None cs.list.now) is (least-is from cs.list.now None)
-    by (Some output) is = λ n low below. absurd (omega (arith, low, below))
+    by (Some output) is = ((λ some. absurd (omega (arith, some))), (λ n low below. absurd (omega (arith, below))))
 
-pub next-later : (cs : Fields) (from : ℕ) (next : Option ℕ) → IsNext cs from next → IsNext cs (from + 1) next
-next-later cs from None is = (is.0, chosen_from-later cs.list.now from is.1)
-next-later cs from (Some next) is = λ n low below. is n (omega (arith, low)) below
+next-onward : (cs : Fields) (from : ℕ) (next : Option ℕ) → IsNext cs from next → IsNext cs (from + 1) next
+next-onward cs from None is = (is.0, chosen_from-later cs.list.now from is.1)
+next-onward cs from (Some next) is = (is.0, λ n low below. is.1 n (omega (arith, low)) below)
+
+-- so it is after a field, and one of a number before the next one is passed on
+module _ (cs : Fields) (count n : ℕ) (field : List ℕ) (counted : n ≡ number_of cs.blanks count field) where
+  pub next-later : (next : Option ℕ) → IsNext cs (count + 1) next → IsNext cs (n + 1) next
+  next-later next is = rw counted (number-by (λ k is. IsNext cs (k + 1) next) cs.blanks count field (next-onward cs (count + 1) next is)
+      is)
+
+  pub next-kept : (next : ℕ) → IsNext cs (count + 1) (Some next) → n < next
+      → (cs.output ≡ None) × (is_chosen_field cs.list.now cs.blanks n field ≡ false)
+  next-kept next is below = (
+    is.0 (omega (arith, below)),
+    subst (λ k. k < next → is_chosen_field cs.list.now cs.blanks k field ≡ false) (sym counted)
+        (number-by (λ k counts. k < next → (is_chosen cs.list.now k && counts) ≡ false) cs.blanks count field
+        (λ low. rw (is.1 (count + 1) (omega arith) low) refl) (λ low. and_false _ false refl)) below,
+  )
 
 -- a field, and those after it, by where it ends
-pub split-ended : (cs : Fields) (quotes : Option ℕ) → quotes ≡ quotes_of cs → (text left : List ℕ) (start len : ℕ) (there : Within)
+pub split-ended : (cs : Fields) (quotes : Option ℕ) → quotes ≡ quotes_of cs → (text left : List ℕ) (start len : ℕ) (there : CsvState)
     → start ≤ length text → left ≡ drop start text →
     Ends quotes cs.delimiter Start left len there →
     (rest : List (List ℕ)) × (fields_of cs (drop start text) ≡ slice_range text start (start + len) ∷ rest)
@@ -124,17 +162,15 @@ joined-tail d text fields = grind (arith, append-nil)
 pub none_between : (text : List ℕ) (n : ℕ) → slice_range text n n ≡ []
 none_between text n = let none : n - n ≡ 0 = omega arith in ap (λ k. take k (drop n text)) none
 
--- a text and what is after it, or the first fault
-abbrev pub followed : Result (List ℕ) Fault → Result (List ℕ) Fault → Result (List ℕ) Fault
-followed (Ok text) rest = after text rest
-followed (Err fault) rest = Err fault
-
 module _ (rules : Rules) (cs : Fields) (from to : NotationData) (number : ℕ) where
   abbrev d : ℕ
   d = output_delimiter cs
 
+  abbrev n_of : ℕ → List ℕ → ℕ
+  n_of count field = number_of cs.blanks count field
+
   abbrev one_written : ℕ → List ℕ → Result (List ℕ) Fault
-  one_written count field = field_written rules cs from to number (count + 1) (is_chosen cs.list.now (count + 1)) field
+  one_written n field = field_written rules cs from to number n field
 
   -- the fields that so many others are before, and with the delimiter before them too
   abbrev pub left_written : ℕ → List (List ℕ) → Result (List ℕ) Fault
@@ -144,8 +180,9 @@ module _ (rules : Rules) (cs : Fields) (from to : NotationData) (number : ℕ) w
   tail_written count fields = result_map_both (tail_of d) (λ fault. fault) (fields_written rules cs from to number count fields)
 
   left-field : (count : ℕ) (field : List ℕ) (fields : List (List ℕ))
-      → left_written count (field ∷ fields) ≡ followed (one_written count field) (tail_written (count + 1) fields)
-  left-field count field fields = by (one_written count field) (fields_written rules cs from to number (count + 1) fields)
+      → left_written count (field ∷ fields) ≡ followed (one_written (n_of count field) field) (tail_written (n_of count field) fields)
+  left-field count field fields =
+      by (one_written (n_of count field) field) (fields_written rules cs from to number (n_of count field) fields)
     where
       by : (first : Result (List ℕ) Fault) (rest : Result (List (List ℕ)) Fault) →
           result_map_both (join_with_byte d) (λ fault. fault) (with_first first rest)
@@ -160,7 +197,8 @@ module _ (rules : Rules) (cs : Fields) (from to : NotationData) (number : ℕ) w
   tail-some : (count : ℕ) (fields : List (List ℕ)) → 0 < length fields
       → tail_written count fields ≡ after (d ∷ []) (left_written count fields)
   tail-some count [] some = absurd (omega arith)
-  tail-some count (field ∷ fields) some = by (one_written count field) (fields_written rules cs from to number (count + 1) fields)
+  tail-some count (field ∷ fields) some =
+      by (one_written (n_of count field) field) (fields_written rules cs from to number (n_of count field) fields)
     where
       by : (first : Result (List ℕ) Fault) (rest : Result (List (List ℕ)) Fault) →
           result_map_both (tail_of d) (λ fault. fault) (with_first first rest)
@@ -170,17 +208,17 @@ module _ (rules : Rules) (cs : Fields) (from to : NotationData) (number : ℕ) w
       by (Err f) rest = refl
 
   -- fields that are passed on
-  one-plain : (count : ℕ) (field : List ℕ) → cs.output ≡ None → is_chosen cs.list.now (count + 1) ≡ false
-      → one_written count field ≡ Ok field
-  one-plain count field none plain = rw (plain, none) refl
+  one-plain : (n : ℕ) (field : List ℕ) → cs.output ≡ None → is_chosen_field cs.list.now cs.blanks n field ≡ false
+      → one_written n field ≡ Ok field
+  one-plain n field none plain = rw (plain, none) refl
 
   all-plain : (count : ℕ) (fields : List (List ℕ)) → cs.output ≡ None → is_chosen_from cs.list.now (count + 1) ≡ false
       → fields_written rules cs from to number count fields ≡ Ok fields
   all-plain count [] none past = rw (enough-all cs.list.now count past) refl
   all-plain count (field ∷ fields) none past =
       rw (
-        one-plain count field none (chosen-none cs.list.now (count + 1) past),
-        all-plain (count + 1) fields none (chosen_from-later cs.list.now (count + 1) past),
+        one-plain (n_of count field) field none (past-field cs.list.now cs.blanks count field past),
+        all-plain (n_of count field) fields none (past-later cs.list.now cs.blanks count field past),
       ) refl
 
   delimiter-plain : cs.output ≡ None → d ≡ cs.delimiter
@@ -223,51 +261,52 @@ module _ (rules : Rules) (cs : Fields) (from to : NotationData) (number : ℕ) w
           subst (λ x. AddsIf {T = Unit {0}} x old new (Ok tt)) (sym same) (adds_trans old now new front _ begun.1 adds)
 
       module _ (kept start end count : ℕ) (low : kept ≤ start) (ordered : start ≤ end) (begun : Begun kept start count now)
-          (rest : List (List ℕ)) (split : fields_of cs (drop start line) ≡ slice_range line start end ∷ rest) where
+          (rest : List (List ℕ)) (split : fields_of cs (drop start line) ≡ slice_range line start end ∷ rest) (n : ℕ)
+          (counted : n ≡ n_of count (slice_range line start end)) where
         abbrev field : List ℕ
         field = slice_range line start end
 
         abbrev before : List ℕ
         before = begun.0 ++ slice_range line kept start
 
-        here : (first : Result (List ℕ) Fault) → one_written count field ≡ first → whole
-            ≡ after before (followed first (tail_written (count + 1) rest))
+        here : (first : Result (List ℕ) Fault) → one_written n field ≡ first → whole
+            ≡ after before (followed first (tail_written n rest))
         here first is = begun.2 ∙ ap (after before) (ap (left_written count) split ∙ left-field count field rest
-            ∙ ap (λ x. followed x (tail_written (count + 1) rest)) is)
+            ∙ ap (λ k. followed (one_written k field) (tail_written k rest)) (sym counted) ∙ ap (λ x. followed x (tail_written n rest)) is)
 
         -- the field is passed on
-        pub begun-kept : cs.output ≡ None → is_chosen cs.list.now (count + 1) ≡ false → Past kept end (count + 1) rest now
+        pub begun-kept : cs.output ≡ None → is_chosen_field cs.list.now cs.blanks n field ≡ false → Past kept end n rest now
         begun-kept none plain = (
           begun.0,
           begun.1,
-          here (Ok field) (one-plain count field none plain) ∙ after-after before field (tail_written (count + 1) rest)
-              ∙ ap (λ l. after l (tail_written (count + 1) rest)) (append_assoc begun.0 (slice_range line kept start) field
+          here (Ok field) (one-plain n field none plain) ∙ after-after before field (tail_written n rest)
+              ∙ ap (λ l. after l (tail_written n rest)) (append_assoc begun.0 (slice_range line kept start) field
               ∙ ap (λ l. begun.0 ++ l) (sym (slice-more line kept start end low ordered))),
           inl none,
         )
 
         -- it is written, or at fault
         module _ (mid new : Option (List ℕ)) (passed : Adds now mid (slice_range line kept start)) where
-          pub begun-written : AddsIf {T = Unit {0}} (one_written count field) mid new (Ok tt) → Past end end (count + 1) rest new
-          begun-written = by (one_written count field) refl
+          pub begun-written : AddsIf {T = Unit {0}} (one_written n field) mid new (Ok tt) → Past end end n rest new
+          begun-written = by (one_written n field) refl
             where
-              by : (first : Result (List ℕ) Fault) → one_written count field ≡ first → AddsIf {T = Unit {0}} first mid new (Ok tt)
-                  → Past end end (count + 1) rest new
+              by : (first : Result (List ℕ) Fault) → one_written n field ≡ first → AddsIf {T = Unit {0}} first mid new (Ok tt)
+                  → Past end end n rest new
               by (Ok text) is adds = (
                 before ++ text,
                 adds_trans old mid new before text (adds_trans old now mid begun.0 _ begun.1 passed) adds,
-                here (Ok text) is ∙ after-after before text (tail_written (count + 1) rest)
-                    ∙ ap (λ l. after l (tail_written (count + 1) rest)) (sym (ap (λ l. (before ++ text) ++ l) (none_between line end)
+                here (Ok text) is ∙ after-after before text (tail_written n rest)
+                    ∙ ap (λ l. after l (tail_written n rest)) (sym (ap (λ l. (before ++ text) ++ l) (none_between line end)
                     ∙ append-nil (before ++ text))),
                 inr refl,
               )
               by (Err f) is adds = absurd adds
 
-          pub begun-fault : (fault : Fault) → AddsIf {T = Unit {0}} (one_written count field) mid new (Err fault)
+          pub begun-fault : (fault : Fault) → AddsIf {T = Unit {0}} (one_written n field) mid new (Err fault)
               → AddsIf {T = Unit {0}} whole old new (Err fault)
-          begun-fault fault = by (one_written count field) refl
+          begun-fault fault = by (one_written n field) refl
             where
-              by : (first : Result (List ℕ) Fault) → one_written count field ≡ first → AddsIf {T = Unit {0}} first mid new (Err fault)
+              by : (first : Result (List ℕ) Fault) → one_written n field ≡ first → AddsIf {T = Unit {0}} first mid new (Err fault)
                   → AddsIf {T = Unit {0}} whole old new (Err fault)
               by (Ok text) is adds = absurd adds
               by (Err f) is adds = subst (λ x. AddsIf {T = Unit {0}} x old new (Err fault)) (sym (here (Err f) is)) adds

@@ -1,22 +1,22 @@
 -- The header of an input, and the fields that have names in it.
-use Rattle.regroup_lines.proofs.Common.{Err, Fields, FindsPiece, Input, List, None, Option, Piece, Range, Result, Rules, Some, Start}
-use Rattle.regroup_lines.proofs.Common.{Within, [], ap, arith, array_len, bytes_at, drop, false, fields_of, held, is_some, length, ok_or}
-use Rattle.regroup_lines.proofs.Common.{quotes_in, quotes_of, refl, result_map_both, subst, sym, take, true, ℕ, ◌+◌, ◌-◌, ◌<◌, ◌≤◌, ◌∙◌}
-use Rattle.regroup_lines.proofs.Common.{◌∷◌, ◌≡◌}
+use Rattle.regroup_lines.proofs.Common.{Err, Fields, FindsPiece, Input, List, None, Option, InputPiece, Range, Result, Rules, Some, Start}
+use Rattle.regroup_lines.proofs.Common.{CsvState, [], ap, arith, array_len, bytes_at, drop, false, fields_of, held, is_some, length, ok_or}
+use Rattle.regroup_lines.proofs.Common.{number_of, quotes_in, quotes_of, refl, result_map_both, subst, sym, take, true, ℕ, ◌+◌, ◌-◌, ◌<◌}
+use Rattle.regroup_lines.proofs.Common.{◌≤◌, ◌∙◌, ◌∷◌, ◌≡◌}
 use Rattle.std.specs.Borrow.{Bor}
 use Rattle.regroup_lines.proofs.FieldLemmas.{split-ended}
 use Rattle.regroup_lines.proofs.RecordLemmas.{Ends}
 use Rattle.regroup_lines.specs.Header.{IsHeader, Misnamed, is_named, misnamed_of, named_after, only_one, unmarked}
 use Rattle.regroup_lines.specs.Header.Misnamed.{Doubled}
 use Rattle.regroup_lines.specs.declared.header.NameFault.TheVariants as fault
-use Rattle.regroup_lines.specs.declared.input.Piece.TheVariants as piece
-use Rattle.regroup_lines.specs.declared.records.Within.TheVariants.{Mark}
+use Rattle.regroup_lines.specs.declared.input.InputPiece.TheVariants as piece
+use Rattle.regroup_lines.specs.declared.records.CsvState.TheVariants.{Mark}
 
 -- the first piece of an input
-module _ (rules : Rules) (before : List ℕ) (none : before ≡ []) (within : Within) (first : within ≡ Mark) (input : Input)
-    (a b : Option (List ℕ)) (found : Piece)
+module _ (rules : Rules) (before : List ℕ) (none : before ≡ []) (within : CsvState) (first : within ≡ Mark) (input : Input)
+    (a b : Option (List ℕ)) (found : InputPiece)
     (finds : FindsPiece (quotes_in rules.span) rules.line_end within before input a b found) (text : List ℕ) where
-  abbrev Finds : Piece → Type 0
+  abbrev Finds : InputPiece → Type 0
   Finds found = FindsPiece (quotes_in rules.span) rules.line_end Mark [] input a b found
 
   here : Finds found
@@ -55,7 +55,7 @@ named-end name (Some number) = refl
 
 -- the next field, by where it ends
 module _ (cs : Fields) (name : List ℕ) (count : ℕ) (rest : List ℕ) (quotes : Option ℕ) (same : quotes ≡ quotes_of cs) (len : ℕ)
-    (there : Within) (ends : Ends quotes cs.delimiter Start rest len there) where
+    (there : CsvState) (ends : Ends quotes cs.delimiter Start rest len there) where
   abbrev Next : (n m : ℕ) → Type 0
   Next n m =
       (later : List (List ℕ)) × (fields_of cs rest ≡ take m rest ∷ later) × (n ≡ length rest → later ≡ [])
@@ -69,14 +69,14 @@ module _ (cs : Fields) (name : List ℕ) (count : ℕ) (rest : List ℕ) (quotes
       (subst (λ n. Next n (0 + len - 0)) whole (split-ended cs quotes same rest rest 0 len there (omega arith) refl ends))
 
   abbrev from_here : Option ℕ → Result ℕ Misnamed
-  from_here found = also name found (named_after cs.quotes name count (fields_of cs rest))
+  from_here found = also name found (named_after cs name count (fields_of cs rest))
 
-  abbrev pub then_after : Option ℕ → Result ℕ Misnamed
-  then_after found = also name found (named_after cs.quotes name (count + 1) next.0)
+  abbrev pub then_after : (n : ℕ) → Option ℕ → Result ℕ Misnamed
+  then_after n found = also name found (named_after cs name n next.0)
 
-  module _ (found : Option ℕ) where
+  module _ (n : ℕ) (counted : n ≡ number_of cs.blanks count (take len rest)) (found : Option ℕ) where
     -- it has the name, after another or as the first, or has another name
-    module _ (is : is_named cs.quotes name (take len rest) ≡ true) where
+    module _ (is : is_named cs name (take len rest) ≡ true) where
       pub named-again : is_some found ≡ true → from_here found ≡ Err (Doubled name)
       named-again some = by found some
         where
@@ -84,21 +84,21 @@ module _ (cs : Fields) (name : List ℕ) (count : ℕ) (rest : List ℕ) (quotes
           by None some = absurd (cc)
           by (Some number) some = rw (next.1, is) refl
 
-      pub named-first : is_some found ≡ false → from_here found ≡ then_after (Some (count + 1))
+      pub named-first : is_some found ≡ false → from_here found ≡ then_after n (Some n)
       named-first none = by found none
         where
-          by : (found : Option ℕ) → is_some found ≡ false → from_here found ≡ then_after (Some (count + 1))
-          by None none = rw (next.1, is) refl
+          by : (found : Option ℕ) → is_some found ≡ false → from_here found ≡ then_after n (Some n)
+          by None none = rw (next.1, is, counted) refl
           by (Some number) none = absurd (cc)
 
-    pub named-other : is_named cs.quotes name (take len rest) ≡ false → from_here found ≡ then_after found
-    named-other is = rw (next.1, is) refl
+    pub named-other : is_named cs name (take len rest) ≡ false → from_here found ≡ then_after n found
+    named-other is = rw (next.1, is, counted) refl
 
     -- it is the last one, or another is after it
-    pub named-last : len ≡ length rest → then_after found ≡ also name found []
-    named-last last = ap (λ l. also name found (named_after cs.quotes name (count + 1) l)) (next.2 last)
+    pub named-last : len ≡ length rest → then_after n found ≡ also name found []
+    named-last last = ap (λ l. also name found (named_after cs name n l)) (next.2 last)
 
     pub named-next : (left : List ℕ) → left ≡ drop (len + 1) rest → len < length rest →
-        then_after found ≡ also name found (named_after cs.quotes name (count + 1) (fields_of cs left))
+        then_after n found ≡ also name found (named_after cs name n (fields_of cs left))
     named-next left is more =
-        ap (λ l. also name found (named_after cs.quotes name (count + 1) l)) (next.3 more ∙ ap (fields_of cs) (sym is))
+        ap (λ l. also name found (named_after cs name n l)) (next.3 more ∙ ap (fields_of cs) (sym is))

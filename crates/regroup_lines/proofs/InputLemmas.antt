@@ -1,15 +1,16 @@
 -- The bytes that an input holds, read after read.
-use Rattle.regroup_lines.proofs.Common.{◌≢◌, eq-eqb, both_ways, Bool, get_or, is_inside, Consumes, Consumes-kept, Consumes-nil}
-use Rattle.regroup_lines.proofs.Common.{Consumes-trans, EndsOrGoesOn, FindsPiece, HasNoEnd, Input, IsAtEnd, IsRecord, Keeps, List, Option}
-use Rattle.regroup_lines.proofs.Common.{Piece, Range, Reads, Searched, Within, [], ap, append-nil, append_assoc, arith, array_len, bytes_at}
-use Rattle.regroup_lines.proofs.Common.{drop, drop-append-le, drop-drop, drop-take, drop_at, ended_by, eqb-true, false, held, length}
+use Rattle.regroup_lines.proofs.Common.{◌≢◌, get_or, is_inside, Consumes, Consumes-kept, Consumes-nil}
+use Rattle.regroup_lines.proofs.Common.{Consumes-trans, FindsPiece, HasNoEnd, Input, IsAtEnd, IsRecord, Keeps, List, Option}
+use Rattle.regroup_lines.proofs.Common.{CsvState, InputPiece, Range, Reads, Searched, [], ap, append-nil, append_assoc, arith, array_len}
+use Rattle.regroup_lines.proofs.Common.{bytes_at}
+use Rattle.regroup_lines.proofs.Common.{drop, drop-append-le, drop-drop, drop-take, drop_at, ended_by, false, held, length}
 use Rattle.regroup_lines.proofs.Common.{length-drop, length-take-le, refl, slice_range, subst, sym, take, take-add, take-append-le}
-use Rattle.regroup_lines.proofs.Common.{take_all, take_at, take_rest, true, ℕ, ◌++◌, ◌+◌, ◌-◌, ◌<◌, ◌==◌, ◌∙◌, ◌∷◌, ◌≡◌, ◌≤◌}
+use Rattle.regroup_lines.proofs.Common.{take_all, take_at, take_rest, ℕ, ◌++◌, ◌+◌, ◌-◌, ◌<◌, ◌∙◌, ◌∷◌, ◌≡◌, ◌≤◌}
 use Rattle.regroup_lines.proofs.RecordLemmas.{Ends, Ends-on, Ends-parts, Ends-record, Ends-same, Searched-all, Searched-longer}
 use Rattle.std.proofs.lemmas.List.{take_more}
 use Rattle.regroup_lines.specs.Input.{IsEndedAt}
 use borrow.Rule.Slice.PartMut.{put_mid, post_of}
-use Rattle.regroup_lines.specs.declared.input.Piece.TheVariants as piece
+use Rattle.regroup_lines.specs.declared.input.InputPiece.TheVariants as piece
 
 -- a range of an array without its first n bytes
 pub range-later : (xs : List ℕ) (start end n : ℕ) → start + n ≤ end → slice_range xs (start + n) end ≡ drop n (slice_range xs start end)
@@ -73,24 +74,13 @@ read-nothing : (xs ys : List ℕ) (a b : Option (List ℕ)) → Reads xs ys a b 
 read-nothing xs ys a b read same = sym (take_all (length xs) ys same) ∙ ap (take (length xs)) (sym read.joined)
     ∙ take_at xs read.given (length xs) refl
 
--- whether a byte follows, by how many were read
-pub ends_or_goes_on : (bytes read : List ℕ) (a b : Option (List ℕ)) (n : ℕ) (end : Bool) → (n == 0) ≡ end → bytes ≡ []
-    → Reads bytes read a b → length read ≡ length bytes + n → (n ≡ 0 → IsAtEnd b) →
-    EndsOrGoesOn bytes a b end
-ends_or_goes_on bytes read a b n true is empty reads len at_end =
-    let none = eqb-true n 0 is in
-    (subst (λ l. Reads bytes l a b) (read-nothing bytes read a b reads (omega (arith, len, none)) ∙ empty) reads, at_end none)
-ends_or_goes_on bytes read a b n false is empty reads len at_end =
-    let some : n ≢ 0 = λ none. both_ways (n == 0) is (eq-eqb n 0 none) in
-    (read, reads, omega (arith, some, len))
-
 -- a text at a place, and the byte that ends it
 pub ended-at : (e : ℕ) (input : Input) (place : Range ℕ) (text ended : List ℕ) → text ≡ bytes_at input place
     → ended ≡ slice_range input.array.now place.start (place.end + 1) → IsEndedAt e input place → ended ≡ ended_by e text
 ended-at e input place text ended same is at_place = is ∙ at_place.2 ∙ ap (ended_by e) (sym same)
 
 -- a piece that was found, in other words
-module _ (q : Option ℕ) (e : ℕ) (w : Within) (before : List ℕ) (input : Input) (a b : Option (List ℕ)) (found : Piece)
+module _ (q : Option ℕ) (e : ℕ) (w : CsvState) (before : List ℕ) (input : Input) (a b : Option (List ℕ)) (found : InputPiece)
     (finds : FindsPiece q e w before input a b found) (place : Range ℕ) (text : List ℕ) (same : text ≡ bytes_at input place) where
   pub found-line : found ≡ piece.Line place → Reads before (text ++ e ∷ held input) a b × IsRecord q e w text
       × (length text < array_len input)
@@ -107,7 +97,7 @@ held_len input =
     length-take-le (input.end - input.start) (drop input.start input.array.now) (omega (arith, length-drop input.start input.array.now))
 
 -- a search of the bytes that are held, of which the first n are searched
-module _ (input : Input) {p q : Option ℕ} {e : ℕ} {w here after : Within} {rest : List ℕ} {n len : ℕ} (same : p ≡ q)
+module _ (input : Input) {p q : Option ℕ} {e : ℕ} {w here after : CsvState} {rest : List ℕ} {n len : ℕ} (same : p ≡ q)
     (so_far : Searched q e w (held input) n here)
     (is : rest ≡ slice_range (held input) n (length (held input))) (more : Searched p e here rest len after) (found : len < length rest
     → (get_or rest len 0 ≡ e) × (is_inside after ≡ false)) where

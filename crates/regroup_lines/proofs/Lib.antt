@@ -4,6 +4,7 @@ mod ChoiceLemmas
 mod ChosenLemmas
 mod Common
 pub mod CsvLemmas
+mod CursorLemmas
 mod Examples
 mod FieldLemmas
 mod HeaderLemmas

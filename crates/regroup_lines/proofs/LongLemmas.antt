@@ -4,7 +4,8 @@ use Rattle.regroup_lines.proofs.Common.{Ok, Err, refl, sym, ap, subst, ◌∙◌
 use Rattle.regroup_lines.proofs.Common.{result_map_both, length-append, ended_by, Fault, Flush, Read, TooMany, HasNoEnd, IsLong, IsRecord}
 use Rattle.regroup_lines.proofs.Common.{IsStop, Reads, stop_result, stop_text, IsHalt, Stop, quotes_in, Ended, Endless, Failed, Unflushed}
 use Rattle.regroup_lines.proofs.Common.{Unread, after_byte, after_text, fold-append, is_inside, line_reached, next_line, PassesLong}
-use Rattle.regroup_lines.proofs.Common.{ReceivesBytes, SendsBytes, Writer, by_writer, failed_by, failed_writer, Within, record_start, Rules}
+use Rattle.regroup_lines.proofs.Common.{CsvState, ReceivesBytes, SendsBytes, Writer, by_writer, failed_by, failed_writer, record_start}
+use Rattle.regroup_lines.proofs.Common.{Rules}
 use Rattle.regroup_lines.proofs.Common.{ended_once, ends_with, append-nil, ◌==◌, get_or, if◌then◌else◌}
 use Rattle.std.proofs.lemmas.Bool.{lt-ltb}
 use Rattle.std.proofs.lemmas.List.{get_or-append-add}
@@ -13,7 +14,7 @@ use Rattle.regroup_lines.proofs.RecordLemmas.{end-append, reached-append}
 use Rattle.regroup_lines.proofs.WriterLemmas.{ReceivesBytes-after, received-kept}
 
 -- so many pieces of a record were sent: no byte is held that was not
-pub record SentLong (rules : Rules) (n0 n1 : ℕ) (within : Within) (is_ended : Bool) (begun : List ℕ) (r0 r1 : Option (List ℕ))
+pub record SentLong (rules : Rules) (n0 n1 : ℕ) (within : CsvState) (is_ended : Bool) (begun : List ℕ) (r0 r1 : Option (List ℕ))
     (c0 c1 : Option (List ℕ) → Writer → Option (List ℕ)) (count : ℕ) (held : List ℕ) : Type 0 where
   pub text : List ℕ
   pub read : Reads begun text r0 r1
@@ -56,7 +57,7 @@ module _ (rules : Rules) (n0 n2 : ℕ) (begun : List ℕ) (r0 : Option (List ℕ
   PassesLong-first left fault long sends = PassesLong.to_stop Unread begun (Reads-none begun r0) long tt sends.1 (unsent fault sends.0)
 
   -- the next piece, where the writer was flushed
-  module _ (n1 : ℕ) (within : Within) (is_ended : Bool) (holds : List ℕ) (r1 r2 s s1 x : Option (List ℕ)) (count : ℕ)
+  module _ (n1 : ℕ) (within : CsvState) (is_ended : Bool) (holds : List ℕ) (r1 r2 s s1 x : Option (List ℕ)) (count : ℕ)
       (so_far : SentLong rules n0 n1 within is_ended begun r0 r1 c0 (λ told. by_writer s told x) count holds) (kept : Keeps s s1) where
     abbrev q : Option ℕ
     q = quotes_in rules.span
@@ -94,7 +95,7 @@ module _ (rules : Rules) (n0 n2 : ℕ) (begun : List ℕ) (r0 : Option (List ℕ
         long = let long = so_far.is.long in omega (arith, long, length-append so_far.text text);
       }
 
-      pub SentLong-next : Reads holds text r1 r2 → HasNoEnd q e within text → (left : List ℕ) (within2 : Within) (is_ended2 : Bool)
+      pub SentLong-next : Reads holds text r1 r2 → HasNoEnd q e within text → (left : List ℕ) (within2 : CsvState) (is_ended2 : Bool)
           → 0 < length text → ReceivesBytes rules.rejects None c1 c2 text → left ≡ [] → within2 ≡ after_text q within text →
           n2 ≡ line_reached q e n1 text → is_ended2 ≡ ends_with e is_ended text
           → SentLong rules n0 n2 within2 is_ended2 begun r0 r2 c0 c2 (count + 1) left
@@ -158,7 +159,8 @@ module _ (rules : Rules) (n0 n2 : ℕ) (begun : List ℕ) (r0 : Option (List ℕ
         PassesLong-line (Err fault) sends number = to-end (Err fault) sends.1 (unsent fault sends.0)
 
   -- where enough was read
-  pub PassesLong-endless : (n1 : ℕ) (within : Within) (is_ended : Bool) (holds : List ℕ) (r1 : Option (List ℕ)) (count : ℕ) (left : List ℕ)
+  pub PassesLong-endless : (n1 : ℕ) (within : CsvState) (is_ended : Bool) (holds : List ℕ) (r1 : Option (List ℕ)) (count : ℕ)
+      (left : List ℕ)
       → SentLong rules n0 n1 within is_ended begun r0 r1 c0 c2 count holds → 2 ^ 64 - 1 ≤ count →
       PassesLong rules n0 n2 begun left r0 r1 c0 c2 (Err TooMany)
   PassesLong-endless n1 within is_ended holds r1 count left so_far enough =

@@ -1,15 +1,18 @@
 -- What is written in place of a line depends on the line's number in the fault alone.
 use Rattle.regroup_lines.proofs.Common.{failed_writer, Bool, Err, Fault, FewFields, Field, FieldNotText, Fields, FixedPoint, NotationData}
 use Rattle.regroup_lines.proofs.Common.{Line, List, MARK, None, NotText, Ok, Option, ParseNumber, Reading, Refusal, Result, Rules}
-use Rattle.regroup_lines.proofs.Common.{Some, Span, TooMany, [], after, ap, are_enough, between, body_written, cases_Bool, chosen_of}
+use Rattle.regroup_lines.proofs.Common.{Some, Span, TooMany, [], after, ap, are_enough, between, body_written, cases_Bool, chosen_replaced}
+use Rattle.regroup_lines.proofs.Common.{FieldRange, all_written, followed, line_ended}
+use Rattle.regroup_faults.specs.declared.fault.FieldCount.{FieldCount}
+use Rattle.regroup_lines.specs.Places.{count_after, listed}
 use Rattle.regroup_lines.proofs.Common.{cut_text, inl, inr, decimal_written, drop, false}
 use Rattle.regroup_lines.proofs.Common.{field_count, field_read, field_with, field_written, fields_of, fields_written, if◌then◌else◌}
-use Rattle.regroup_lines.proofs.Common.{header_written, in_field, is_barred, is_chosen, is_utf8, join_with_byte, length, list_any, nat_le}
-use Rattle.regroup_lines.proofs.Common.{decimal_in, number_place, number_text, read_by}
+use Rattle.regroup_lines.proofs.Common.{header_written, in_field, is_barred, is_chosen_field, is_utf8, join_with_byte, length, list_any}
+use Rattle.regroup_lines.proofs.Common.{decimal_in, nat_le, number_of, number_place, number_text, read_by}
 use Rattle.regroup_lines.proofs.Common.{number_written, numbers_replaced, ok_or, option_map, output_delimiter, passes_mark}
 use Rattle.regroup_lines.proofs.Common.{place_written, refl, result_map_both, slice_range, take, text_fault, trimmed, true}
-use Rattle.regroup_lines.proofs.Common.{unmarked_written}
-use Rattle.regroup_lines.proofs.Common.{with_first, ℕ, ◌&&◌, ◌++◌, ◌+◌, ◌==◌, ◌∙◌, ◌∷◌, ◌≡◌}
+use Rattle.regroup_lines.proofs.Common.{unmarked_written, without_affixes}
+use Rattle.regroup_lines.proofs.Common.{with_first, ℕ, ◌&&◌, ◌++◌, ◌==◌, ◌∙◌, ◌∷◌, ◌≡◌}
 use Rattle.regroup_lines.specs.declared.rules.Span.TheVariants as span
 
 -- the same fault of a text, in the line of this number
@@ -77,21 +80,21 @@ module _ (rules : Rules) (from to : NotationData) (n m : ℕ) where
 
   read : (quotes : Bool) (field : List ℕ) → field_read rules quotes from to n field ≡ numbered n (field_read rules quotes from to m field)
   read quotes field =
-      let at = number_place quotes field in
+      let at = without_affixes rules.affixes field (number_place quotes field) in
       let text = slice_range field at.0 at.1 in
       either n (rules.passes_empty && (at.0 == at.1)) (Ok None) (Ok None) _ _ refl
       (either n (quotes && list_any (is_barred rules.line_end) text) (Err (text_fault n text)) (Err (text_fault m text)) _ _
       (ap Err (fault text))
-      (ap (result_map_both Some (λ fault. fault)) (number rules.reading text)
-      ∙ mapped n Some (λ fault. fault) (λ fault. refl) (number_written rules.reading from to m text)))
+      (ap (result_map_both (λ text. Some (at, text)) (λ fault. fault)) (number rules.reading text)
+      ∙ mapped n (λ text. Some (at, text)) (λ fault. fault) (λ fault. refl) (number_written rules.reading from to m text)))
 
-  one_field : (fields : Fields) (k : ℕ) (chosen : Bool) (field : List ℕ)
-      → field_written rules fields from to n k chosen field ≡ numbered n (field_written rules fields from to m k chosen field)
-  one_field fields k true field =
-      ap (result_map_both (field_with fields rules.line_end field) (in_field k)) (read fields.quotes field)
-      ∙ mapped n (field_with fields rules.line_end field) (in_field k) (in_field-numbered n k)
-      (field_read rules fields.quotes from to m field)
-  one_field fields k false field = refl
+  one_field : (fields : Fields) (k : ℕ) (field : List ℕ)
+      → field_written rules fields from to n k field ≡ numbered n (field_written rules fields from to m k field)
+  one_field fields k field =
+      let as_read = field_with fields rules.line_end field in
+      either n (is_chosen_field fields.list.now fields.blanks k field) _ _ (Ok (as_read None)) (Ok (as_read None))
+      (ap (result_map_both as_read (in_field k)) (read fields.quotes field) ∙ mapped n as_read (in_field k) (in_field-numbered n k)
+      (field_read rules fields.quotes from to m field)) refl
 
   all_fields : (fields : Fields) (before : ℕ) (texts : List (List ℕ))
       → fields_written rules fields from to n before texts ≡ numbered n (fields_written rules fields from to m before texts)
@@ -99,10 +102,10 @@ module _ (rules : Rules) (from to : NotationData) (n m : ℕ) where
       (Err (FewFields n (field_count fields.delimiter fields.list.now before)))
       (Err (FewFields m (field_count fields.delimiter fields.list.now before))) refl refl
   all_fields fields before (text ∷ texts) =
-      let chosen = is_chosen fields.list.now (before + 1) in
-      ap (λ x. with_first x (fields_written rules fields from to n (before + 1) texts)) (one_field fields (before + 1) chosen text)
-      ∙ ap (with_first (numbered n (field_written rules fields from to m (before + 1) chosen text))) (all_fields fields (before + 1) texts)
-      ∙ first n (field_written rules fields from to m (before + 1) chosen text) (fields_written rules fields from to m (before + 1) texts)
+      let k = number_of fields.blanks before text in
+      ap (λ x. with_first x (fields_written rules fields from to n k texts)) (one_field fields k text)
+      ∙ ap (with_first (numbered n (field_written rules fields from to m k text))) (all_fields fields k texts)
+      ∙ first n (field_written rules fields from to m k text) (fields_written rules fields from to m k texts)
 
   of_fields : (fields : Fields) (f : List (List ℕ) → List ℕ) (text : List ℕ) →
       result_map_both f (λ fault. fault) (fields_written rules fields from to n 0 (fields_of fields text))
@@ -111,14 +114,38 @@ module _ (rules : Rules) (from to : NotationData) (n m : ℕ) where
       ap (result_map_both f (λ fault. fault)) (all_fields fields 0 (fields_of fields text))
       ∙ mapped n f (λ fault. fault) (λ fault. refl) (fields_written rules fields from to m 0 (fields_of fields text))
 
+  all_items : (fields : Fields) (items : List (ℕ × List ℕ))
+      → all_written rules fields from to n items ≡ numbered n (all_written rules fields from to m items)
+  all_items fields [] = refl
+  all_items fields (item ∷ items) =
+      ap (λ x. with_first x (all_written rules fields from to n items)) (one_field fields item.0 item.1)
+      ∙ ap (with_first (numbered n (field_written rules fields from to m item.0 item.1))) (all_items fields items)
+      ∙ first n (field_written rules fields from to m item.0 item.1) (all_written rules fields from to m items)
+
+  chosen : (fields : Fields) (list : List FieldRange) (text : List ℕ)
+      → chosen_replaced fields list rules from to n text ≡ numbered n (chosen_replaced fields list rules from to m text)
+  chosen fields list text =
+      let joined = join_with_byte (output_delimiter fields) in
+      let items = listed list fields.blanks (fields_of fields text) in
+      let count = count_after fields.blanks 0 (fields_of fields text) in
+      ap (λ x. followed x (line_ended fields n count [])) (ap (result_map_both joined (λ fault. fault)) (all_items fields items)
+      ∙ mapped n joined (λ fault. fault) (λ fault. refl) (all_written rules fields from to m items))
+      ∙ by (result_map_both joined (λ fault. fault) (all_written rules fields from to m items)) (are_enough fields.list.now count)
+      (field_count fields.delimiter fields.list.now count)
+    where
+      by : (text : Result (List ℕ) Fault) (enough : Bool) (count : FieldCount) →
+          followed (numbered n text) (if enough then Ok [] else Err (FewFields n count))
+          ≡ numbered n (followed text (if enough then Ok [] else Err (FewFields m count)))
+      by (Ok text) true count = refl
+      by (Ok text) false count = refl
+      by (Err fault) enough count = refl
+
   numbers : (where_is : Span) (text : List ℕ) → numbers_replaced where_is rules from to n text
       ≡ numbered n (numbers_replaced where_is rules from to m text)
   numbers span.Line text = place text (0, length text)
-  numbers span.Trimmed text = place text (trimmed text (0, length text))
+  numbers span.Trimmed text = place text (without_affixes rules.affixes text (trimmed text (0, length text)))
   numbers (span.Fields fields) text =
-      let joined = join_with_byte (output_delimiter fields) in
-      either n fields.only _ _ _ _ (of_fields fields (λ texts. joined (chosen_of fields.list.now 0 texts)) text)
-      (of_fields fields joined text)
+      either n fields.only _ _ _ _ (chosen fields fields.list.now text) (of_fields fields (join_with_byte (output_delimiter fields)) text)
 
   -- but a byte order mark
   pub body-numbered : (text : List ℕ) → nat_le n rules.header_lines ≡ nat_le m rules.header_lines

@@ -8,9 +8,10 @@ use Rattle.regroup_lines.proofs.Common.{IsStop, Reads, array_len, bytes_at, held
 use Rattle.regroup_lines.proofs.Common.{fault_named, line_after, long_fault, only_written, passed, passes, quotes_in, record_sent}
 use Rattle.regroup_lines.proofs.Common.{regrouped, regrouped_after, returning, sending, sending_line, text_sent, Ended, Failed, Unflushed}
 use Rattle.regroup_lines.proofs.Common.{Unread, messages, is_open, Names, PassesLong, Receives, ReceivesBytes, ReceivesEach, RegroupsNaming}
-use Rattle.regroup_lines.proofs.Common.{Returns, SendsEach, Writer, by_writer, failed_by, failed_writer, text_to, Summary, Input, Piece}
+use Rattle.regroup_lines.proofs.Common.{Input, InputPiece, Returns, SendsEach, Summary, Writer, by_writer, failed_by, failed_writer}
+use Rattle.regroup_lines.proofs.Common.{text_to}
 use Rattle.regroup_lines.proofs.Common.{Rules, record_start, ended_once}
-use Rattle.regroup_lines.specs.declared.input.Piece.TheVariants as piece
+use Rattle.regroup_lines.specs.declared.input.InputPiece.TheVariants as piece
 use Rattle.regroup_lines.proofs.ChoiceLemmas.{either}
 use Rattle.regroup_lines.proofs.LineLemmas.{after-many, last_returned, line-next, long-next, long-stopped, long_fault-begun}
 use Rattle.regroup_lines.proofs.LineLemmas.{long_fault-front, rest-empty, rest-halted, rest-line, rest-long}
@@ -217,11 +218,11 @@ module _ (rules : Rules) (name : List ℕ) (most : ℕ) (from to : NotationData)
     reached bytes read = Progress-reads count number has r1 c1 before bytes r2
         (Progress-kept count number has r1 before s1 s t x so_far kept) read
 
-    abbrev Finds : Input → Piece → Type 0
+    abbrev Finds : Input → InputPiece → Type 0
     Finds input found = FindsPiece (quotes_in rules.span) rules.line_end (record_start number) before input r1 r2 found
 
     -- a line
-    module _ (input : Input) (found : Piece) (finds : Finds input found) (place : Range ℕ) (is : found ≡ piece.Line place)
+    module _ (input : Input) (found : InputPiece) (finds : Finds input found) (place : Range ℕ) (is : found ≡ piece.Line place)
         (len : array_len input ≡ rules.max_line_len + 1) (line : List ℕ) (same : line ≡ bytes_at input place) where
       abbrev left : List ℕ
       left = held input
@@ -259,7 +260,7 @@ module _ (rules : Rules) (name : List ℕ) (most : ℕ) (from to : NotationData)
           line_ends tt (next_so Unread left) (text-sent rules from to number line) sends
 
     -- bytes after the last line
-    module _ (input : Input) (found : Piece) (finds : Finds input found) (place : Range ℕ) (is : found ≡ piece.Rest place)
+    module _ (input : Input) (found : InputPiece) (finds : Finds input found) (place : Range ℕ) (is : found ≡ piece.Rest place)
         (len : array_len input ≡ rules.max_line_len + 1) (rest : List ℕ) (same : rest ≡ bytes_at input place) where
       found_rest : Reads before rest r1 r2 × HasNoEnd (quotes_in rules.span) rules.line_end (record_start number) rest
           × (length rest < array_len input) × IsAtEnd r2
@@ -305,7 +306,7 @@ module _ (rules : Rules) (name : List ℕ) (most : ℕ) (from to : NotationData)
     Regroups-halted bytes read none short fault is = absurd is
 
     -- a record that is too long
-    module _ (input : Input) (found : Piece) (finds : Finds input found) (is : found ≡ piece.TooLong) (len : array_len input
+    module _ (input : Input) (found : InputPiece) (finds : Finds input found) (is : found ≡ piece.TooLong) (len : array_len input
         ≡ rules.max_line_len + 1) where
       abbrev begun : List ℕ
       begun = held input

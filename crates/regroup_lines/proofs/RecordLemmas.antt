@@ -5,15 +5,15 @@ use Rattle.regroup_lines.proofs.Common.{eq-eqb, take-append-drop, All, cases_Boo
 use Rattle.regroup_lines.proofs.Common.{onto_first, eqb-true, or_from, or_parts, drop-drop, drop_more, length-drop, take_all, take_more}
 use Rattle.regroup_lines.proofs.Common.{take-append-le, false_from_ne_true, get_or-drop, length-append, zero, fold-append, sum_by-append}
 use Rattle.regroup_lines.proofs.Common.{take-add, unwrap_or, HasNoEnd, IsRecord, after_byte, after_record_byte, Searched, after_text}
-use Rattle.regroup_lines.proofs.Common.{has_end, is_inside, is_open, line_reached, lines_ended, split_at, Within, after_bare}
+use Rattle.regroup_lines.proofs.Common.{has_end, is_inside, is_open, line_reached, lines_ended, split_at, CsvState, after_bare}
 use Rattle.regroup_lines.proofs.Common.{begins_with_mark, is_quote, nat_eq, next_line, record_start, Start}
 use Rattle.std.specs.List.{starts_with}
 use Rattle.memchr.specs.Find.{IsFirstByte, Nowhere, Passes, is_byte, is_byte2}
 use Rattle.regroup_lines.proofs.ChoiceLemmas.{either}
-use Rattle.regroup_lines.specs.declared.records.Within.TheVariants.{Bare, Mark, Mark1, Mark2, Quoted}
+use Rattle.regroup_lines.specs.declared.records.CsvState.TheVariants.{Bare, Mark, Mark1, Mark2, Quoted}
 
 -- what follows a text where there are no quotes
-after-none : (w : Within) (text : List ℕ) → w ≡ after_text None w text
+after-none : (w : CsvState) (text : List ℕ) → w ≡ after_text None w text
 after-none w [] = refl
 after-none w (b ∷ text) = after-none w text
 
@@ -21,17 +21,17 @@ after-none w (b ∷ text) = after-none w text
 abbrev Unquoted : List ℕ → Type 0
 Unquoted text = All (λ b. is_quote b ≡ false) text
 
-abbrev InField : Within → Type 0
+abbrev InField : CsvState → Type 0
 InField Start = ⊤
 InField Bare = ⊤
 InField w = ⊥
 
-after-unquoted : (d b : ℕ) (w : Within) → InField w → is_quote b ≡ false → after_byte (Some d) w b ≡ after_bare d Bare b
+after-unquoted : (d b : ℕ) (w : CsvState) → InField w → is_quote b ≡ false → after_byte (Some d) w b ≡ after_bare d Bare b
 after-unquoted d b Start in_field plain = rw plain refl
 after-unquoted d b Bare in_field plain = refl
 after-unquoted d b w in_field plain = absurd in_field
 
-pub after-last : (q : Option ℕ) (w : Within) (text : List ℕ) → InField w → 1 ≤ length text → Unquoted text
+pub after-last : (q : Option ℕ) (w : CsvState) (text : List ℕ) → InField w → 1 ≤ length text → Unquoted text
     → after_byte q w (get_or text (length text - 1) 0) ≡ after_text q w text
 after-last None w text in_field some plain = after-none w text
 after-last (Some d) w [] in_field some plain = absurd (omega arith)
@@ -44,7 +44,7 @@ after-last (Some d) w (b ∷ c ∷ text) in_field some plain =
     ∙ sym (after-unquoted d _ (after_byte (Some d) w b) next here)
     ∙ after-last (Some d) (after_byte (Some d) w b) (c ∷ text) next (omega arith) (λ k x low. plain (suc k) x (omega (arith, low)))
 
-pub after-quoted : (q : Option ℕ) (w : Within) (text : List ℕ) → is_inside w ≡ true → Unquoted text → w ≡ after_text q w text
+pub after-quoted : (q : Option ℕ) (w : CsvState) (text : List ℕ) → is_inside w ≡ true → Unquoted text → w ≡ after_text q w text
 after-quoted None w text inside plain = after-none w text
 after-quoted (Some d) Quoted [] inside plain = refl
 after-quoted (Some d) Quoted (b ∷ text) inside plain =
@@ -60,26 +60,26 @@ slice-more text a b c low high =
     ∙ ap (λ l. slice_range text a b ++ take (c - b) l) (drop-drop (b - a) a text ∙ ap (λ n. drop n text) there)
 
 -- two places from which the bytes of a text go on alike
-abbrev Like : Option ℕ → Within → Within → List ℕ → Type 0
+abbrev Like : Option ℕ → CsvState → CsvState → List ℕ → Type 0
 Like q v w [] = is_inside v ≡ is_inside w
 Like q v w (b ∷ text) = (is_inside v ≡ is_inside w) × Like q (after_byte q v b) (after_byte q w b) text
 
-like-same : (q : Option ℕ) (w : Within) (text : List ℕ) → Like q w w text
+like-same : (q : Option ℕ) (w : CsvState) (text : List ℕ) → Like q w w text
 like-same q w [] = refl
 like-same q w (b ∷ text) = (refl, like-same q (after_byte q w b) text)
 
-like-none : (v w : Within) (text : List ℕ) → is_inside v ≡ is_inside w → Like None v w text
+like-none : (v w : CsvState) (text : List ℕ) → is_inside v ≡ is_inside w → Like None v w text
 like-none v w [] same = same
 like-none v w (b ∷ text) same = (same, like-none v w text same)
 
-like-but : (q : Option ℕ) (text : List ℕ) (is : Bool) (u v w : Within) → Like q v w text
+like-but : (q : Option ℕ) (text : List ℕ) (is : Bool) (u v w : CsvState) → Like q v w text
     → Like q (if is then u else v) (if is then u else w) text
 like-but q text true u v w like = like-same q u text
 like-but q text false u v w like = like
 
 -- the start of an input and that of a record, where no mark is
 module _ (d : ℕ) where
-  like-marked : (n : ℕ) (next : Within) (b : ℕ) (text : List ℕ) → (b ≡ n → Like (Some d) next Bare text)
+  like-marked : (n : ℕ) (next : CsvState) (b : ℕ) (text : List ℕ) → (b ≡ n → Like (Some d) next Bare text)
       → Like (Some d) (after_bare d (if b == n then next else Bare) b) (after_bare d Bare b) text
   like-marked n next b text marked =
       like-but (Some d) text (b == d) Start _ Bare (elim (cases_Bool (b == n)) [
@@ -102,11 +102,11 @@ like-start (Some d) [] plain = refl
 like-start (Some d) (b ∷ text) plain =
     (refl, like-but (Some d) text (is_quote b) Quoted _ _ (like-marked d 239 Mark1 b text (λ is. like-second d text (rw is at plain))))
 
-like-split : (q : Option ℕ) (e : ℕ) (v w : Within) (text : List ℕ) → Like q v w text → split_at q e v text ≡ split_at q e w text
+like-split : (q : Option ℕ) (e : ℕ) (v w : CsvState) (text : List ℕ) → Like q v w text → split_at q e v text ≡ split_at q e w text
 like-split q e v w [] like = refl
 like-split q e v w (b ∷ text) like = rw (like.0, like-split q e (after_byte q v b) (after_byte q w b) text like.1) refl
 
-like-inside : (q : Option ℕ) (v w : Within) (text : List ℕ) → Like q v w text
+like-inside : (q : Option ℕ) (v w : CsvState) (text : List ℕ) → Like q v w text
     → is_inside (after_text q v text) ≡ is_inside (after_text q w text)
 like-inside q v w [] like = like
 like-inside q v w (b ∷ text) like = like-inside q (after_byte q v b) (after_byte q w b) text like.1
@@ -154,17 +154,17 @@ module _ (q : Option ℕ) (e : ℕ) where
   joined-next (part ∷ parts) some = refl
 
   -- whether a byte ends a part
-  abbrev ends : Within → ℕ → Bool
+  abbrev ends : CsvState → ℕ → Bool
   ends w b = (b == e) && not (is_inside w)
 
   -- there is a part
-  pub split-some : (w : Within) (text : List ℕ) → 0 < length (split_at q e w text)
+  pub split-some : (w : CsvState) (text : List ℕ) → 0 < length (split_at q e w text)
   split-some w [] = omega arith
   split-some w (b ∷ text) = either (λ (parts : List (List ℕ)). 0 < length parts) (ends w b) _ _ (omega arith)
       (first-some b (split_at q e (after_byte q w b) text))
 
   -- the parts, joined again, are the text
-  pub split-joined : (w : Within) (text : List ℕ) → join_with_byte e (split_at q e w text) ≡ text
+  pub split-joined : (w : CsvState) (text : List ℕ) → join_with_byte e (split_at q e w text) ≡ text
   split-joined w [] = refl
   split-joined w (b ∷ text) =
       elim (cases_Bool (ends w b)) [
@@ -177,29 +177,29 @@ module _ (q : Option ℕ) (e : ℕ) where
       ]
 
   -- a text that no part ends in
-  pub end-append : (w : Within) (xs ys : List ℕ) → HasNoEnd q e w xs → HasNoEnd q e (after_text q w xs) ys → HasNoEnd q e w (xs ++ ys)
+  pub end-append : (w : CsvState) (xs ys : List ℕ) → HasNoEnd q e w xs → HasNoEnd q e (after_text q w xs) ys → HasNoEnd q e w (xs ++ ys)
   end-append w [] ys none after = after
   end-append w (b ∷ xs) ys none after =
       let parts = or_parts (ends w b) (has_end q e (after_byte q w b) xs) none in
       or_from _ _ parts.0 (end-append (after_byte q w b) xs ys parts.1 after)
 
-  pub split-none : (w : Within) (xs : List ℕ) → HasNoEnd q e w xs → split_at q e w xs ≡ xs ∷ []
+  pub split-none : (w : CsvState) (xs : List ℕ) → HasNoEnd q e w xs → split_at q e w xs ≡ xs ∷ []
   split-none w [] none = refl
   split-none w (b ∷ xs) none =
       let parts = or_parts (ends w b) (has_end q e (after_byte q w b) xs) none in
       rw parts.0 (ap (onto_first b) (split-none (after_byte q w b) xs parts.1))
 
-  ended-here : (w : Within) (ys : List ℕ) → is_inside w ≡ false → split_at q e w (e ∷ ys) ≡ [] ∷ split_at q e Start ys
+  ended-here : (w : CsvState) (ys : List ℕ) → is_inside w ≡ false → split_at q e w (e ∷ ys) ≡ [] ∷ split_at q e Start ys
   ended-here w ys outside = rw (eq-eqb e e refl, outside) refl
 
-  pub split-first : (w : Within) (xs ys : List ℕ) → IsRecord q e w xs → split_at q e w (xs ++ e ∷ ys) ≡ xs ∷ split_at q e Start ys
+  pub split-first : (w : CsvState) (xs ys : List ℕ) → IsRecord q e w xs → split_at q e w (xs ++ e ∷ ys) ≡ xs ∷ split_at q e Start ys
   split-first w [] ys is = ended-here w ys is.1
   split-first w (b ∷ xs) ys is =
       let parts = or_parts (ends w b) (has_end q e (after_byte q w b) xs) is.0 in
       rw parts.0 (ap (onto_first b) (split-first (after_byte q w b) xs ys (parts.1, is.1)))
 
   -- several records
-  pub split-append : (w : Within) (front back : List ℕ) → is_inside (fold (after_record_byte q e) w front) ≡ false →
+  pub split-append : (w : CsvState) (front back : List ℕ) → is_inside (fold (after_record_byte q e) w front) ≡ false →
       split_at q e w (front ++ e ∷ back) ≡ split_at q e w front ++ split_at q e Start back
   split-append w [] back outside = ended-here w back outside
   split-append w (b ∷ front) back outside =
@@ -211,7 +211,7 @@ module _ (q : Option ℕ) (e : ℕ) where
 
   -- a text without bytes that a search for this one stops at
   module _ (stops : ℕ → Bool) (other : (b : ℕ) → stops b ≡ false → (b == e) ≡ false) where
-    end-plain : (w : Within) (text : List ℕ) (n : ℕ) → Nowhere (Passes stops text) 0 n → HasNoEnd q e w (take n text)
+    end-plain : (w : CsvState) (text : List ℕ) (n : ℕ) → Nowhere (Passes stops text) 0 n → HasNoEnd q e w (take n text)
     end-plain w text zero none = refl
     end-plain w [] (suc n) none = refl
     end-plain w (b ∷ text) (suc n) none =
@@ -219,7 +219,7 @@ module _ (q : Option ℕ) (e : ℕ) where
         or_from _ _ (ap (λ same. same && not (is_inside w)) plain) (end-plain (after_byte q w b) text n
         (λ k above low. none (suc k) (omega arith) (omega (arith, low))))
 
-    Searched-to : {w after : Within} {text : List ℕ} {n : ℕ} (found : Option ℕ) → IsFirstByte stops text found
+    Searched-to : {w after : CsvState} {text : List ℕ} {n : ℕ} (found : Option ℕ) → IsFirstByte stops text found
         → n ≡ unwrap_or found (length text) → after ≡ after_text q w (take n text) →
         Searched q e w text n after
     Searched-to {w} {after} {text} {n} None is same there = record {
@@ -232,26 +232,26 @@ module _ (q : Option ℕ) (e : ℕ) where
         record { inside = omega (arith, same, low); none = rw same (end-plain w text k is.0.before); there = there }
 
 -- a text where there are no quotes
-pub Searched-unquoted : (q : Option ℕ) (e : ℕ) (w : Within) (text : List ℕ) (n : ℕ) (found : Option ℕ) → q ≡ None
+pub Searched-unquoted : (q : Option ℕ) (e : ℕ) (w : CsvState) (text : List ℕ) (n : ℕ) (found : Option ℕ) → q ≡ None
     → IsFirstByte (is_byte e) text found → n ≡ unwrap_or found (length text) → Searched q e w text n w
 Searched-unquoted q e w text n found none is same = Searched-to q e (is_byte e) (λ b other. other) found is same
     (rw none (after-none w (take n text)))
 
 -- where the first bytes of a text end: at its end, or before a byte that ends a part
-abbrev pub Ends : Option ℕ → ℕ → Within → List ℕ → ℕ → Within → Type 0
+abbrev pub Ends : Option ℕ → ℕ → CsvState → List ℕ → ℕ → CsvState → Type 0
 Ends q e w text n here = Searched q e w text n here × (n < length text → (get_or text n 0 ≡ e) × (is_inside here ≡ false))
 
-pub Ends-same : {p q : Option ℕ} {e : ℕ} {w here : Within} {rest text : List ℕ} {n : ℕ} → p ≡ q → rest ≡ text → Ends p e w rest n here
+pub Ends-same : {p q : Option ℕ} {e : ℕ} {w here : CsvState} {rest text : List ℕ} {n : ℕ} → p ≡ q → rest ≡ text → Ends p e w rest n here
     → Ends q e w text n here
 Ends-same {p} {q} {e} {w} {here} {rest} {text} {n} same is ends = subst (λ o. Ends o e w text n here) same
     (subst (λ l. Ends p e w l n here) is ends)
 
-module _ {q : Option ℕ} {e : ℕ} {w here : Within} {text : List ℕ} {n : ℕ} (so_far : Searched q e w text n here) where
+module _ {q : Option ℕ} {e : ℕ} {w here : CsvState} {text : List ℕ} {n : ℕ} (so_far : Searched q e w text n here) where
   pub Searched-all : length text ≤ n → HasNoEnd q e w text
   Searched-all all = subst (HasNoEnd q e w) (take_all n text all) so_far.none
 
   -- the bytes after them are searched too
-  Searched-on : {m : ℕ} {after : Within} → Searched q e here (drop n text) m after → Searched q e w text (n + m) after
+  Searched-on : {m : ℕ} {after : CsvState} → Searched q e here (drop n text) m after → Searched q e w text (n + m) after
   Searched-on {m} {after} more =
       let sum = take-add n m text in
       record {
@@ -262,14 +262,14 @@ module _ {q : Option ℕ} {e : ℕ} {w here : Within} {text : List ℕ} {n : ℕ
             ∙ sym (fold-append (after_byte q) w (take n text) (take m (drop n text))) ∙ ap (after_text q w) (sym sum);
       }
 
-  pub Searched-search : {m : ℕ} {after : Within} (found : Option ℕ) → IsFirstByte (is_byte2 34 e) (slice_range text n (length text)) found
+  pub Searched-search : {m : ℕ} {after : CsvState} (found : Option ℕ) → IsFirstByte (is_byte2 34 e) (slice_range text n (length text)) found
       → m ≡ unwrap_or found (length (slice_range text n (length text))) →
       after ≡ after_text q here (take m (slice_range text n (length text))) → Searched q e w text (n + m) after
   Searched-search {m} {after} found is same there =
       Searched-on (subst (λ l. Searched q e here l m after) (take_rest text n)
       (Searched-to q e (is_byte2 34 e) (λ b plain. (or_parts (b == 34) (b == e) plain).1) found is same there))
 
-  pub Ends-on : {m : ℕ} {after : Within} → Ends q e here (drop n text) m after → Ends q e w text (n + m) after
+  pub Ends-on : {m : ℕ} {after : CsvState} → Ends q e here (drop n text) m after → Ends q e w text (n + m) after
   Ends-on {m} {after} ends = (
     Searched-on ends.0,
     λ low. let found = ends.1 (omega (arith, low, length-drop n text))
@@ -301,7 +301,7 @@ module _ {q : Option ℕ} {e : ℕ} {w here : Within} {text : List ℕ} {n : ℕ
       }
 
 -- a text, by the part before its first end
-module _ {q : Option ℕ} {e : ℕ} {w here : Within} {text : List ℕ} {n : ℕ} (ends : Ends q e w text n here) (low : n < length text) where
+module _ {q : Option ℕ} {e : ℕ} {w here : CsvState} {text : List ℕ} {n : ℕ} (ends : Ends q e w text n here) (low : n < length text) where
   pub Ends-parts : text ≡ take n text ++ e ∷ drop (n + 1) text
   Ends-parts = sym (take-append-drop n text) ∙ ap (λ l. take n text ++ l) (drop_more text n 0 low
       ∙ ap (λ b. b ∷ drop (n + 1) text) (ends.1 low).0)
@@ -310,7 +310,7 @@ module _ {q : Option ℕ} {e : ℕ} {w here : Within} {text : List ℕ} {n : ℕ
   Ends-record = (ends.0.none, ap is_inside (sym ends.0.there) ∙ (ends.1 low).1)
 
 -- the part of a text that begins at `start`, by where a search from there ends
-module _ {q : Option ℕ} {e : ℕ} {here : Within} (text : List ℕ) (start at : ℕ) (ends : Ends q e Start (drop start text) at here) where
+module _ {q : Option ℕ} {e : ℕ} {here : CsvState} (text : List ℕ) (start at : ℕ) (ends : Ends q e Start (drop start text) at here) where
   abbrev rest : List ℕ
   rest = drop start text
 

@@ -9,7 +9,7 @@ use Rattle.regroup_lines.proofs.Common.{sym, take, take-append-le, text_sent, tr
 use Rattle.regroup_lines.proofs.Common.{◌≤◌, ended_once}
 use lib.Pointwise.{pointwise, pointwise_long}
 use Rattle.regroup_lines.specs.Laws.{SplitLaw, SplitsInto}
-use Rattle.regroup_lines.specs.declared.records.Within.TheVariants.{Mark}
+use Rattle.regroup_lines.specs.declared.records.CsvState.TheVariants.{Mark}
 use Rattle.regroup_lines.specs.declared.rules.Invalid.{Invalid}
 use Rattle.regroup_lines.specs.declared.rules.Invalid.TheVariants.{Abort, Fail, Warn, Ignore}
 use Rattle.regroup_lines.specs.declared.rules.Span.TheVariants as span

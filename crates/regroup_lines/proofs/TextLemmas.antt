@@ -4,7 +4,7 @@ use Rattle.regroup_lines.proofs.Common.{Err, fixed_point, FixedPoint, FormatData
 use Rattle.regroup_lines.proofs.Common.{List, Ok, Option, ParsesDecimal, Refused, Some, ap, cases_Bool, decimal_read}
 use Rattle.regroup_lines.proofs.Common.{decimal_written, denoted, false, false_from_ne_true, if◌then◌else◌, inl, inr, is_utf8}
 use Rattle.regroup_lines.proofs.Common.{is_utf8-from_IsUtf8, number_text, refl, text_fault, None, typed_read}
-use Rattle.regroup_lines.proofs.Common.{at_scale, whole_read, ℕ, ℤ, ◌∙◌, ◌≡◌}
+use Rattle.regroup_lines.proofs.Common.{whole_read, ℕ, ℤ, ◌∙◌, ◌≡◌}
 use Rattle.num_format.specs.Kind.{signed}
 use Rattle.num_format.specs.ParseBytesError.{ParseBytesError}
 use Rattle.num_format.specs.ParseBytesError.TheVariants.{NotANumber, NotUtf8}
@@ -13,9 +13,7 @@ use Rattle.num_format_typed.specs.Typed.{TypedDecimalResult}
 use Rattle.num_format_typed.specs.declared.error.TypedError.{TypedError}
 use Rattle.regroup_faults.proofs.DecimalLemmas.{decimal_read-is, decimal_read-none, decimal_read-parsed, parsed-utf8}
 use Rattle.regroup_faults.proofs.TypedLemmas.{typed-utf8, typed_read-is}
-use Rattle.std.specs.Option.{option_and_then}
 use Rattle.std.specs.Result.{result_ok}
-use Rattle.regroup_faults.specs.declared.scale.Scale.{Scale}
 
 -- what is read of a text that is UTF-8
 abbrev of_utf8 : List ℕ → Option FixedPoint → Option FixedPoint
@@ -23,18 +21,6 @@ of_utf8 text decimal = if is_utf8 text then decimal else None
 
 none-of_utf8 : (text : List ℕ) → None ≡ of_utf8 text None
 none-of_utf8 text = elim (cases_Bool (is_utf8 text)) [ inl is ↦ rw is refl | inr other ↦ rw other refl ]
-
--- the same at a scale
-pub scaled-utf8 : (scale : Option Scale) (text : List ℕ) (read parsed : Option FixedPoint) → read ≡ of_utf8 text parsed
-    → option_and_then (at_scale scale) read ≡ of_utf8 text (option_and_then (at_scale scale) parsed)
-scaled-utf8 scale text read parsed is = elim (cases_Bool (is_utf8 text)) [
-  | inl valid ↦ (let same : read ≡ parsed = is ∙ rw valid refl in rw (valid, same) refl)
-  | inr other ↦ (let none : read ≡ None = is ∙ rw other refl in rw (other, none) refl)
-]
-
-pub unscaled : (read : Option FixedPoint) → read ≡ option_and_then (at_scale None) read
-unscaled None = refl
-unscaled (Some d) = refl
 
 -- what is written of it
 module _ (to : NotationData) (number : ℕ) (text : List ℕ) (decimal : Option FixedPoint) where

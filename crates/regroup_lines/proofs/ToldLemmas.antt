@@ -1,30 +1,17 @@
 -- What is sent of one line and told of it.
 use Rattle.regroup_lines.proofs.Common.{◌≡◌, ◌≢◌, ◌∙◌}
 use Rattle.regroup_lines.proofs.Common.{ℕ, Bool, true, false, List, [], Option, None, Some}
-use Rattle.regroup_lines.proofs.Common.{Result, Ok, Err, refl, sym, ap, subst, Appends, result_map_both, result_or, is_utf8, Appends-nil}
-use Rattle.regroup_lines.proofs.Common.{NotationData, Sends, StopsWithin, ended_by, Fault, are_any, in_field, Line, NotText, Report, Unclosed}
+use Rattle.regroup_lines.proofs.Common.{Result, Ok, Err, refl, sym, ap, subst, Appends, result_map_both, is_utf8, Appends-nil}
+use Rattle.regroup_lines.proofs.Common.{NotationData, StopsWithin, ended_by, Fault, are_any, in_field, Line, NotText, Report, Unclosed}
 use Rattle.regroup_lines.proofs.Common.{Write, line_fault_of, Sent, body_sent, body_written, fault_named, fault_sent, only_written, passed}
-use Rattle.regroup_lines.proofs.Common.{passes, quotes_in, record_sent, text_sent, messages, is_open, Names, SendsBytes, bytes_to}
-use Rattle.regroup_lines.proofs.Common.{SendsEach, SendsLine, Writer, by_writer, failed_writer, text_to, Output, Rejects, LineFault, Rules}
+use Rattle.regroup_lines.proofs.Common.{passes, quotes_in, record_sent, text_sent, messages, is_open, Names, SendsBytes}
+use Rattle.regroup_lines.proofs.Common.{SendsEach, SendsLine, Writer, by_writer, failed_writer, text_to, Output, LineFault, Rules}
 use Rattle.regroup_lines.proofs.Common.{ended_once}
 use Rattle.regroup_lines.specs.declared.line_fault.LineFault.TheVariants as fault
 use Rattle.regroup_lines.proofs.ChoiceLemmas.{either}
 use Rattle.regroup_lines.proofs.LineLemmas.{passes-fault}
 use Rattle.regroup_lines.proofs.SentLemmas.{IsSent, body_written-sent}
 use Rattle.regroup_lines.proofs.WriterLemmas.{each, passed-received, prefix-none, unnamed-stopped}
-
--- bytes that are rejected
-pub bytes-rejected : {E : Type 0} (w a b : Option (List ℕ)) (bytes : List ℕ) (call : Result (Unit {0}) E) → Sends call a b bytes
-    → (result : Result (Unit {0}) LineFault) → result ≡ result_or call (Err fault.Reject) →
-    SendsBytes true (λ told. by_writer w told a) (λ told. by_writer w told b) bytes (result_map_both (λ sent. sent) line_fault_of result)
-bytes-rejected w a b bytes (Ok done) sends result is =
-    rw is (λ told. each None (by_writer w told a) (by_writer w told b) (bytes_to true bytes) (Appends-nil w) (Appends-nil told) sends.whole)
-bytes-rejected w a b bytes (Err e) sends result is =
-    rw is (
-      refl,
-      λ told. each (Some Rejects) (by_writer w told a) (by_writer w told b) (bytes_to true bytes) (prefix-none w [])
-          (prefix-none told []) sends.prefix,
-    )
 
 module _ (rules : Rules) (name : List ℕ) (from : NotationData) where
   abbrev Sends_each : Result Sent Fault → (old new : Writer → Option (List ℕ)) → Result Bool Fault → Type 0

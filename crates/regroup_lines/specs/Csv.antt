@@ -10,15 +10,16 @@ use Rattle.regroup_lines.specs.declared.rules.Fields.{Fields}
 use Rattle.regroup_lines.specs.declared.rules.Output.{Output}
 use Rattle.regroup_lines.specs.declared.rules.Quoting.{Quoting}
 use Rattle.regroup_lines.specs.declared.rules.Quoting.TheVariants.{Bare, Keep, Necessary}
-use Rattle.regroup_lines.specs.declared.line_text.Part.{Part}
-use Rattle.regroup_lines.specs.declared.line_text.Part.TheVariants.{Doubled, Plain}
+use Rattle.regroup_lines.specs.declared.line_text.TextPart.{TextPart}
+use Rattle.regroup_lines.specs.declared.line_text.TextPart.TheVariants.{Doubled, Plain}
 
 -- whether a field begins with a quote, and has one at the end of this place
 abbrev pub is_quoted : List ℕ → ℕ × ℕ → Bool
 is_quoted field place =
     (place.0 == 0) && (nat_le 2 place.1 && (is_quote (slice_index field 0) && is_quote (slice_index field (place.1 - 1))))
 
--- where the number is in a field: between the quotes, if there may be quotes, and without the ASCII whitespace around it
+-- where the number is in a field, with what may be before and after it: between the quotes, if there may be quotes, and without the ASCII
+-- whitespace around it
 abbrev pub number_place : (quotes : Bool) → List ℕ → ℕ × ℕ
 number_place quotes field =
     let place = trimmed field (0, length field) in
@@ -60,7 +61,7 @@ quoted_len (b ∷ []) = if is_quote b then 0 else 1
 quoted_len (b ∷ c ∷ text) = if is_quote b then if is_quote c then 2 + quoted_len text else 0 else 1 + quoted_len (c ∷ text)
 
 -- a part of a text as it is sent
-abbrev pub part_text : Part → List ℕ
+abbrev pub part_text : TextPart → List ℕ
 part_text (Plain bytes) = bytes.now
 part_text (Doubled bytes) = doubled bytes.now
 
@@ -105,12 +106,11 @@ passed_as (Some output) quotes line_end field =
     let is_quoted = quotes && is_opened field in
     output_as output line_end is_quoted [] (drop (cond is_quoted 1 0) field) []
 
--- a field with this text in place of that of the number, if there is one
-abbrev pub field_with : Fields → (line_end : ℕ) → (field : List ℕ) → Option (List ℕ) → List ℕ
+-- a field with this text at the place of the number, if there is one
+abbrev pub field_with : Fields → (line_end : ℕ) → (field : List ℕ) → Option ((ℕ × ℕ) × List ℕ) → List ℕ
 field_with fields line_end field None = passed_as fields.output fields.quotes line_end field
-field_with fields line_end field (Some text) =
-    placed fields line_end (fields.quotes && is_quoted field (trimmed field (0, length field))) field
-    (number_place fields.quotes field) text
+field_with fields line_end field (Some number) =
+    placed fields line_end (fields.quotes && is_quoted field (trimmed field (0, length field))) field number.0 number.1
 
 -- the byte between two fields that are written
 abbrev pub output_delimiter : Fields → ℕ

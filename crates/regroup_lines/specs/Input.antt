@@ -10,10 +10,10 @@ use Rattle.regroup_lines.specs.Lines.{Stop, quotes_in}
 use Rattle.regroup_lines.specs.Lines.Stop.{Ended, Endless, Failed, Unflushed, Unread}
 use Rattle.regroup_lines.specs.Records.{after_text, has_end, is_inside, record_start}
 use Rattle.regroup_lines.specs.declared.input.Input.{Input}
-use Rattle.regroup_lines.specs.declared.input.Piece.{Piece}
+use Rattle.regroup_lines.specs.declared.input.InputPiece.{InputPiece}
 use Rattle.regroup_lines.specs.declared.input.Record.{Record}
-use Rattle.regroup_lines.specs.declared.input.Piece.TheVariants.{Line, Rest, TooLong}
-use Rattle.regroup_lines.specs.declared.records.Within.{Within}
+use Rattle.regroup_lines.specs.declared.input.InputPiece.TheVariants.{Line, Rest, TooLong}
+use Rattle.regroup_lines.specs.declared.records.CsvState.{CsvState}
 use Rattle.regroup_lines.specs.declared.rules.Rules.{Rules}
 
 -- the bytes that are held
@@ -29,11 +29,11 @@ abbrev pub array_len : Input → ℕ
 array_len input = length input.array.now
 
 -- no byte ends a record
-abbrev pub HasNoEnd : (quotes : Option ℕ) → (line_end : ℕ) → Within → List ℕ → Type 0
+abbrev pub HasNoEnd : (quotes : Option ℕ) → (line_end : ℕ) → CsvState → List ℕ → Type 0
 HasNoEnd quotes line_end within bytes = has_end quotes line_end within bytes ≡ false
 
 -- bytes that end outside quotes, and before which no record ends
-abbrev pub IsRecord : (quotes : Option ℕ) → (line_end : ℕ) → Within → List ℕ → Type 0
+abbrev pub IsRecord : (quotes : Option ℕ) → (line_end : ℕ) → CsvState → List ℕ → Type 0
 IsRecord quotes line_end within bytes = HasNoEnd quotes line_end within bytes × (is_inside (after_text quotes within bytes) ≡ false)
 
 -- the bytes that were held, and those that the reader gave, are these
@@ -43,7 +43,8 @@ pub record Reads (held read : List ℕ) (old new : Option (List ℕ)) : Type 0 w
   pub consumed : Consumes old new given
 
 -- the piece is the first of the bytes that were held and those that the reader gave
-abbrev pub FindsPiece : (quotes : Option ℕ) → (line_end : ℕ) → Within → List ℕ → Input → Option (List ℕ) → Option (List ℕ) → Piece → Type 0
+abbrev pub FindsPiece : (quotes : Option ℕ) → (line_end : ℕ) → CsvState → List ℕ → Input → Option (List ℕ) → Option (List ℕ)
+    → InputPiece → Type 0
 FindsPiece quotes line_end within before input old new (Line place) =
     Reads before (bytes_at input place ++ line_end ∷ held input) old new × IsRecord quotes line_end within (bytes_at input place)
     × (length (bytes_at input place) < array_len input)
@@ -60,7 +61,7 @@ IsEndedAt line_end input place =
     ≡ ended_by line_end (bytes_at input place))
 
 -- so is that of the piece
-abbrev pub IsInArray : (line_end : ℕ) → Input → Piece → Type 0
+abbrev pub IsInArray : (line_end : ℕ) → Input → InputPiece → Type 0
 IsInArray line_end input (Line place) = IsEndedAt line_end input place
 IsInArray line_end input (Rest place) = IsEndedAt line_end input place
 IsInArray line_end input TooLong = ⊤

@@ -1,6 +1,7 @@
 -- The definitions that the contracts of this crate use.
 pub mod Adding
 pub mod Csv
+pub mod Cursor
 pub mod Ended
 pub mod Fields
 pub mod Header

@@ -14,9 +14,9 @@ use Rattle.regroup_lines.specs.Csv.{field_with, is_barred, number_place, output_
 use Rattle.regroup_faults.specs.Fault.{Fault, in_field}
 use Rattle.regroup_faults.specs.Fault.Fault.{TooMany, TooLong, FewFields, Flush, Read, NotText, Line, Unclosed}
 use Rattle.regroup_lines.specs.LineFaults.{text_fault}
-use Rattle.regroup_lines.specs.Places.{are_enough, field_count, is_chosen, trimmed}
+use Rattle.regroup_lines.specs.Places.{are_enough, count_after, field_count, is_chosen_field, listed, number_of, trimmed, without_affixes}
 use Rattle.regroup_lines.specs.Records.{is_open, is_quote, line_reached, next_line, record_start, split_at}
-use Rattle.regroup_lines.specs.declared.records.Within.TheVariants.{Start}
+use Rattle.regroup_lines.specs.declared.records.CsvState.TheVariants.{Start}
 use Rattle.regroup_lines.specs.declared.rules.FieldRange.{FieldRange}
 use Rattle.regroup_lines.specs.declared.rules.Fields.{Fields}
 use Rattle.regroup_lines.specs.declared.rules.Invalid.{Invalid}
@@ -92,21 +92,22 @@ place_written rules from to number text place =
     if rules.passes_empty && (place.0 == place.1) then Ok text else
     between (take place.0 text) (drop place.1 text) (number_written rules.reading from to number (slice_range text place.0 place.1))
 
--- the text that is written in place of that of the number in a field, or its fault, or nothing where it has no byte and that is no fault:
--- where there may be quotes, no number has one
-abbrev pub field_read : Rules → (quotes : Bool) → NotationData → NotationData → ℕ → (field : List ℕ) → Result (Option (List ℕ)) Fault
+-- where the number in a field is and the text that is written in place of it, or its fault, or nothing where it has no byte and that is
+-- no fault: where there may be quotes, no number has one
+abbrev pub field_read : Rules → (quotes : Bool) → NotationData → NotationData → ℕ → (field : List ℕ)
+    → Result (Option ((ℕ × ℕ) × List ℕ)) Fault
 field_read rules quotes from to number field =
-    let place = number_place quotes field in
+    let place = without_affixes rules.affixes field (number_place quotes field) in
     let text = slice_range field place.0 place.1 in
     if rules.passes_empty && (place.0 == place.1) then Ok None else
     if quotes && list_any (is_barred rules.line_end) text then Err (text_fault number text) else
-    result_map_both Some (λ fault. fault) (number_written rules.reading from to number text)
+    result_map_both (λ written. Some (place, written)) (λ fault. fault) (number_written rules.reading from to number text)
 
 -- the field of the last number, which may be chosen: its fault names it
-abbrev pub field_written : Rules → Fields → NotationData → NotationData → ℕ → ℕ → (chosen : Bool) → List ℕ → Result (List ℕ) Fault
-field_written rules fields from to number n chosen field =
-    if chosen then result_map_both (field_with fields rules.line_end field) (in_field n)
-    (field_read rules fields.quotes from to number field) else Ok (field_with fields rules.line_end field None)
+abbrev pub field_written : Rules → Fields → NotationData → NotationData → ℕ → ℕ → List ℕ → Result (List ℕ) Fault
+field_written rules fields from to number n field =
+    if is_chosen_field fields.list.now fields.blanks n field then result_map_both (field_with fields rules.line_end field)
+    (in_field n) (field_read rules fields.quotes from to number field) else Ok (field_with fields rules.line_end field None)
 
 -- a text before others, or the first fault
 abbrev pub with_first : Result (List ℕ) Fault → Result (List (List ℕ)) Fault → Result (List (List ℕ)) Fault
@@ -114,13 +115,13 @@ with_first (Ok text) (Ok texts) = Ok (text ∷ texts)
 with_first (Ok text) (Err fault) = Err fault
 with_first (Err fault) texts = Err fault
 
--- the fields of a line that so many others are before, or the first fault; where they end, the line may have too few
+-- the fields of a line that so many counted ones are before, or the first fault; where they end, the line may have too few
 abbrev pub fields_written : Rules → Fields → NotationData → NotationData → ℕ → (before : ℕ) → List (List ℕ) → Result (List (List ℕ)) Fault
 fields_written rules fields from to number before [] =
     if are_enough fields.list.now before then Ok [] else Err (FewFields number (field_count fields.delimiter fields.list.now before))
 fields_written rules fields from to number before (text ∷ texts) =
-    with_first (field_written rules fields from to number (before + 1) (is_chosen fields.list.now (before + 1)) text)
-    (fields_written rules fields from to number (before + 1) texts)
+    let n = number_of fields.blanks before text in
+    with_first (field_written rules fields from to number n text) (fields_written rules fields from to number n texts)
 
 -- the delimiter of the fields that may be in quotes, if they may, and if it is no quote
 abbrev pub quotes_of : Fields → Option ℕ
@@ -136,31 +137,40 @@ fields_replaced fields rules from to number text =
     result_map_both (join_with_byte (output_delimiter fields)) (λ fault. fault)
     (fields_written rules fields from to number 0 (fields_of fields text))
 
--- those of fields that are chosen, where so many others are before these
-abbrev pub chosen_of : List FieldRange → (before : ℕ) → List (List ℕ) → List (List ℕ)
-chosen_of list before [] = []
-chosen_of list before (text ∷ texts) =
-    if is_chosen list (before + 1) then text ∷ chosen_of list (before + 1) texts else chosen_of list (before + 1) texts
-
--- the chosen fields alone of a line, with the number in each replaced
-abbrev pub chosen_replaced : Fields → List FieldRange → Rules → NotationData → NotationData → ℕ → List ℕ → Result (List ℕ) Fault
-chosen_replaced fields list rules from to number text =
-    result_map_both (λ texts. join_with_byte (output_delimiter fields) (chosen_of list 0 texts)) (λ fault. fault)
-    (fields_written rules fields from to number 0 (fields_of fields text))
-
 -- a text after these bytes
 abbrev pub after : List ℕ → Result (List ℕ) Fault → Result (List ℕ) Fault
 after bytes written = result_map_both (λ text. bytes ++ text) (λ fault. fault) written
+
+-- a text and what is after it, or the first fault
+abbrev pub followed : Result (List ℕ) Fault → Result (List ℕ) Fault → Result (List ℕ) Fault
+followed (Ok text) rest = after text rest
+followed (Err fault) rest = Err fault
 
 -- what is left of a line of so many fields, with the byte that ends it, or the fault of one with too few
 abbrev pub line_ended : Fields → (number count : ℕ) → (rest : List ℕ) → Result (List ℕ) Fault
 line_ended fields number count rest = if are_enough fields.list.now count then Ok rest else Err
     (FewFields number (field_count fields.delimiter fields.list.now count))
 
+-- the fields of these numbers as they are written, or the first fault
+abbrev pub all_written : Rules → Fields → NotationData → NotationData → ℕ → List (ℕ × List ℕ) → Result (List (List ℕ)) Fault
+all_written rules fields from to number [] = Ok []
+all_written rules fields from to number (item ∷ items) =
+    with_first (field_written rules fields from to number item.0 item.1) (all_written rules fields from to number items)
+
+-- the fields of a line that are in the ranges of a list alone, in its order, with the number in each chosen one replaced: the line may have
+-- too few
+abbrev pub chosen_replaced : Fields → List FieldRange → Rules → NotationData → NotationData → ℕ → List ℕ → Result (List ℕ) Fault
+chosen_replaced fields list rules from to number text =
+    let all = fields_of fields text in
+    followed (result_map_both (join_with_byte (output_delimiter fields)) (λ fault. fault)
+    (all_written rules fields from to number (listed list fields.blanks all)))
+    (line_ended fields number (count_after fields.blanks 0 all) [])
+
 -- a line with the numbers where the rules say replaced
 abbrev pub numbers_replaced : Span → Rules → NotationData → NotationData → ℕ → List ℕ → Result (List ℕ) Fault
 numbers_replaced span.Line rules from to number text = place_written rules from to number text (0, length text)
-numbers_replaced span.Trimmed rules from to number text = place_written rules from to number text (trimmed text (0, length text))
+numbers_replaced span.Trimmed rules from to number text =
+    place_written rules from to number text (without_affixes rules.affixes text (trimmed text (0, length text)))
 numbers_replaced (span.Fields fields) rules from to number text =
     if fields.only then chosen_replaced fields fields.list.now rules from to number text else
     fields_replaced fields rules from to number text
@@ -194,8 +204,9 @@ abbrev pub header_written : Span → (line_end : ℕ) → List ℕ → List ℕ
 header_written span.Line line_end text = text
 header_written span.Trimmed line_end text = text
 header_written (span.Fields fields) line_end text =
-    let all = map (λ field. field_with fields line_end field None) (fields_of fields text) in
-    join_with_byte (output_delimiter fields) (if fields.only then chosen_of fields.list.now 0 all else all)
+    let all = fields_of fields text in
+    let written = if fields.only then map (λ item. item.1) (listed fields.list.now fields.blanks all) else all in
+    join_with_byte (output_delimiter fields) (map (λ field. field_with fields line_end field None) written)
 
 -- what is written in place of a line without a byte order mark
 abbrev pub unmarked_written : Rules → NotationData → NotationData → ℕ → List ℕ → Result (List ℕ) Fault
@@ -244,6 +255,7 @@ text_sent rules from to number text = body_sent rules text (body_written rules f
 abbrev pub lenient : Rules
 lenient = record {
   span = span.Line;
+  affixes = None;
   reading = record { parsing = Lenient; scale = None };
   header_lines = 0;
   passes_empty = false;

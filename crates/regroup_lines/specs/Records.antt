@@ -2,25 +2,25 @@
 use Rattle.std.specs.Prelude.{◌≡◌, ℕ, ◌+◌, ◌-◌, ◌^◌, ◌≤◌, ◌==◌, length, min, take, Bool, false, true, ◌&&◌, ◌||◌, not, if◌then◌else◌, List}
 use Rattle.std.specs.Prelude.{[], ◌∷◌, Option, None, Some}
 use Rattle.std.specs.List.{count_by, fold, onto_first}
-use Rattle.regroup_lines.specs.declared.records.Within.{Within}
-use Rattle.regroup_lines.specs.declared.records.Within.TheVariants.{Mark, Mark1, Mark2, Start, Bare, Quoted}
+use Rattle.regroup_lines.specs.declared.records.CsvState.{CsvState}
+use Rattle.regroup_lines.specs.declared.records.CsvState.TheVariants.{Mark, Mark1, Mark2, Start, Bare, Quoted}
 
 -- whether a byte is a quote
 abbrev pub is_quote : ℕ → Bool
 is_quote b = b == 34
 
 -- whether the next byte is inside quotes
-abbrev pub is_inside : Within → Bool
+abbrev pub is_inside : CsvState → Bool
 is_inside Quoted = true
 is_inside within = false
 
 -- what follows a byte outside quotes that opens none, by what follows it unless it is a delimiter
-abbrev pub after_bare : (delimiter : ℕ) → (other : Within) → ℕ → Within
+abbrev pub after_bare : (delimiter : ℕ) → (other : CsvState) → ℕ → CsvState
 after_bare delimiter other b = if b == delimiter then Start else other
 
 -- what follows a byte, by the delimiter of the fields that may be in quotes, if they may: a quote opens quotes as the first byte of a field
 -- and, as the second of two, again after one that closes them; a field begins after a byte order mark too
-abbrev pub after_byte : (quotes : Option ℕ) → Within → ℕ → Within
+abbrev pub after_byte : (quotes : Option ℕ) → CsvState → ℕ → CsvState
 after_byte None within b = within
 after_byte (Some delimiter) Mark b = if is_quote b then Quoted else after_bare delimiter (if b == 239 then Mark1 else Bare) b
 after_byte (Some delimiter) Mark1 b = after_bare delimiter (if b == 187 then Mark2 else Bare) b
@@ -30,33 +30,33 @@ after_byte (Some delimiter) Bare b = after_bare delimiter Bare b
 after_byte (Some delimiter) Quoted b = if is_quote b then Start else Quoted
 
 -- where the first byte of a record is, by the number of its line: an input may begin with a byte order mark
-abbrev pub record_start : ℕ → Within
+abbrev pub record_start : ℕ → CsvState
 record_start number = if number == 1 then Mark else Start
 
 -- what follows a text
-abbrev pub after_text : (quotes : Option ℕ) → Within → List ℕ → Within
+abbrev pub after_text : (quotes : Option ℕ) → CsvState → List ℕ → CsvState
 after_text quotes within text = fold (after_byte quotes) within text
 
 -- the parts of a text between bytes of this value that are not inside quotes
-abbrev pub split_at : (quotes : Option ℕ) → (end : ℕ) → Within → List ℕ → List (List ℕ)
+abbrev pub split_at : (quotes : Option ℕ) → (end : ℕ) → CsvState → List ℕ → List (List ℕ)
 split_at quotes end within [] = [] ∷ []
 split_at quotes end within (b ∷ text) =
     if (b == end) && not (is_inside within) then [] ∷ split_at quotes end Start text else onto_first b
     (split_at quotes end (after_byte quotes within b) text)
 
 -- whether there is such a byte
-abbrev pub has_end : (quotes : Option ℕ) → (end : ℕ) → Within → List ℕ → Bool
+abbrev pub has_end : (quotes : Option ℕ) → (end : ℕ) → CsvState → List ℕ → Bool
 has_end quotes end within [] = false
 has_end quotes end within (b ∷ text) = ((b == end) && not (is_inside within)) || has_end quotes end (after_byte quotes within b) text
 
 -- the first n bytes of a text, none of which ends a part, and where the byte after them is
-pub record Searched (quotes : Option ℕ) (end : ℕ) (within : Within) (text : List ℕ) (n : ℕ) (here : Within) : Type 0 where
+pub record Searched (quotes : Option ℕ) (end : ℕ) (within : CsvState) (text : List ℕ) (n : ℕ) (here : CsvState) : Type 0 where
   pub inside : n ≤ length text
   pub none : has_end quotes end within (take n text) ≡ false
   pub there : here ≡ after_text quotes within (take n text)
 
 -- what follows a byte of several records
-abbrev pub after_record_byte : (quotes : Option ℕ) → (end : ℕ) → Within → ℕ → Within
+abbrev pub after_record_byte : (quotes : Option ℕ) → (end : ℕ) → CsvState → ℕ → CsvState
 after_record_byte quotes end within b = if (b == end) && not (is_inside within) then Start else after_byte quotes within b
 
 -- whether the records of an input end inside quotes

@@ -8,15 +8,17 @@ ghost use Rattle.regroup_lines.specs.Adding.{Adds, AddsIf, Separates};
 ghost use Rattle.regroup_lines.specs.Csv.{around_as, is_barred, is_opened, is_quoted, needs_quotes, number_place};
 ghost use Rattle.regroup_lines.specs.Csv.{output_as, output_delimiter, output_of, passed_as, placed, quoted_len};
 ghost use Rattle.regroup_lines.specs.LineFaults.{line_fault_of};
-ghost use Rattle.regroup_lines.specs.Lines.{after, chosen_replaced, field_written, fields_replaced, line_ended};
-ghost use Rattle.regroup_lines.specs.Places.{is_chosen, place_of, trimmed};
+ghost use Rattle.regroup_lines.specs.Lines.{after, all_written, chosen_replaced, field_written, fields_replaced};
+ghost use Rattle.regroup_lines.specs.Lines.{line_ended};
+ghost use Rattle.regroup_lines.specs.Places.{place_of, trimmed};
 
-use crate::job::Job;
+use crate::cursor::Cursor;
 use crate::line_fault::LineFault;
 use crate::line_text::LineText;
-use crate::line_text::Part::{Doubled, Plain};
-use crate::records::{Within, find_end, len_without};
-use crate::rules::{FieldRange, Fields, Output, QUOTE, Quoting, trim};
+use crate::line_text::TextPart::{Doubled, Plain};
+use crate::records::{CsvState, find_end, len_without};
+use crate::rules::{FieldRange, Fields, Output, QUOTE, Quoting, trim, without_affixes};
+use crate::setup::Setup;
 use num_format::Format;
 use num_format_decimal::{Decimal, DecimalBuffer};
 use num_format_digits::DigitText;
@@ -25,7 +27,7 @@ use std::ops::Range;
 /// What the fields of a line are regrouped by.
 #[derive(Drop)]
 struct Line<'a, F: Format, G: Format> {
-    job: &'a Job<'a, F, G>,
+    setup: &'a Setup<'a, F, G>,
     fields: &'a Fields<'a>,
     /// The number of the line.
     number: u64,
@@ -33,7 +35,7 @@ struct Line<'a, F: Format, G: Format> {
 
 /// The number in a field.
 #[derive(Clone, Copy)]
-struct Found {
+struct FieldNumber {
     /// Whether it is in quotes.
     is_quoted: bool,
     /// Where it begins in the field.
@@ -46,7 +48,7 @@ struct Found {
 
 /// What is around a text in a field.
 #[derive(Clone, Copy)]
-struct Around<'a> {
+struct Surroundings<'a> {
     /// Whether the field begins with a quote.
     is_quoted: bool,
     /// What is before the text, but for that quote.
@@ -58,68 +60,64 @@ struct Around<'a> {
 /// Appends a line with the number in each chosen field regrouped.
 #[inline(always)]
 pub(crate) fn append_fields<'t, F: Format, G: Format>(
-    job: &Job<F, G>,
+    setup: &Setup<F, G>,
     fields: &Fields,
     number: u64,
     line: &'t [u8],
     text: &mut LineText,
 ) -> Result<(), LineFault<'t>>
-    ensures { AddsIf (fields_replaced fields.now job.now.rules.now job.now.parser job.now.to.now number line.now)
+    ensures { AddsIf (fields_replaced fields.now setup.now.rules.now setup.now.parser setup.now.to.now number line.now)
         text.old text.new (result_map_both (λ added. added) line_fault_of result) }
 {
     let walk = Line {
-        job,
+        setup,
         fields,
         number,
     };
     walk.append(line, text)
 }
 
-/// Appends the fields of a line in these ranges alone, with the number in each chosen field regrouped.
+/// Appends the fields of a line in these ranges alone, those of each range in turn, with the number in each chosen
+/// field regrouped.
 #[inline(never)]
 pub(crate) fn append_chosen<'t, F: Format, G: Format>(
-    job: &Job<F, G>,
+    setup: &Setup<F, G>,
     fields: &Fields,
     list: &[FieldRange],
     number: u64,
     line: &'t [u8],
     text: &mut LineText,
 ) -> Result<(), LineFault<'t>>
-    requires { (n : ℕ) → is_chosen fields.now.list.now n ≡ true → is_chosen list.now n ≡ true }
-    ensures { AddsIf (chosen_replaced fields.now list.now job.now.rules.now job.now.parser job.now.to.now number
+    ensures { AddsIf (chosen_replaced fields.now list.now setup.now.rules.now setup.now.parser setup.now.to.now number
         line.now)
         text.old text.new (result_map_both (λ added. added) line_fault_of result) }
 {
     let walk = Line {
-        job,
+        setup,
         fields,
         number,
     };
-    let asked = Fields { list, ..*fields };
-    let (quotes, delimiter) = (fields.quotes(), fields.delimiter);
-    let (mut is_begun, mut count, mut rest) = (false, 0, line);
-    'fields: loop {
-        let (len, _) = find_end(quotes, delimiter, Within::Start, rest);
-        count += 1;
-        let is_asked = asked.contain(count);
-        walk.append_if(is_asked, is_begun, count, &rest[..len], text)?;
-        is_begun |= is_asked;
-        if len == rest.len() {
-            return walk.end(count, &[], text);
+    let start = Cursor::new(line);
+    let (mut cursor, mut is_begun) = (start, false);
+    for range in list {
+        if range.first <= cursor.count {
+            cursor = start;
         }
-        rest = &rest[len + 1..];
+        is_begun = walk.append_range(range, &mut cursor, is_begun, text)?;
     }
+    walk.end(cursor.count_all(fields), &[], text)
 }
 
 impl<F: Format, G: Format> Line<'_, F, G> {
+    ghost use Rattle.regroup_lines.specs.Cursor.{Passes, is_begun_by, joined_after, left_in};
     ghost use Rattle.regroup_lines.specs.Fields.{IsFoundIn, field_as};
 
     /// Appends the line with the number in each chosen field regrouped.
     ///
     /// Bytes that are passed on are appended with those after them, once the next number is read.
     fn append<'t>(&self, line: &'t [u8], text: &mut LineText) -> Result<(), LineFault<'t>>
-        ensures { AddsIf (fields_replaced self.now.fields.now self.now.job.now.rules.now self.now.job.now.parser
-            self.now.job.now.to.now self.now.number line.now)
+        ensures { AddsIf (fields_replaced self.now.fields.now self.now.setup.now.rules.now self.now.setup.now.parser
+            self.now.setup.now.to.now self.now.number line.now)
             text.old text.new (result_map_both (λ added. added) line_fault_of result) }
     {
         let fields = self.fields;
@@ -131,13 +129,14 @@ impl<F: Format, G: Format> Line<'_, F, G> {
                 text.append(&line[kept..]);
                 return Ok(());
             };
-            let (len, _) = find_end(quotes, delimiter, Within::Start, rest);
-            count += 1;
+            let (len, _) = find_end(quotes, delimiter, CsvState::Start, rest);
+            let start = line.len() - rest.len();
+            let field = &line[start..start + len];
+            count = fields.number_after(count, field);
             if count >= next {
-                let start = line.len() - rest.len();
                 text.append(&line[kept..start]);
+                self.append_field(count, field, text)?;
                 kept = start + len;
-                self.append_field(count, &line[start..kept], text)?;
                 changed = fields.next(count + 1);
             }
             if len == rest.len() {
@@ -177,6 +176,37 @@ impl<F: Format, G: Format> Line<'_, F, G> {
         Ok(())
     }
 
+    /// Appends the fields that are left and in a range, after a delimiter each, but the first if no field is before it.
+    /// Returns whether there are fields now.
+    #[inline(always)]
+    fn append_range<'t>(
+        &self,
+        range: &FieldRange,
+        cursor: &mut Cursor<'t>,
+        was_begun: bool,
+        text: &mut LineText,
+    ) -> Result<bool, LineFault<'t>>
+        ensures added { AddsIf (result_map_both (joined_after was_begun (output_delimiter self.now.fields.now))
+            (λ fault. fault)
+            (all_written self.now.setup.now.rules.now self.now.fields.now self.now.setup.now.parser
+            self.now.setup.now.to.now self.now.number (left_in range.now self.now.fields.now cursor.old)))
+            text.old text.new (result_map_both (λ is_begun. is_begun) line_fault_of result) }
+        ensures begun { IfOk result (λ is_begun. is_begun
+            ≡ is_begun_by was_begun (left_in range.now self.now.fields.now cursor.old)) }
+        ensures passed { IfOk result (λ is_begun. Passes self.now.fields.now cursor.old cursor.new) }
+    {
+        let mut is_begun = was_begun;
+        'fields: while range.reaches(cursor.count + 1) {
+            let Some(field) = cursor.next(self.fields) else {
+                break;
+            };
+            let is_asked = range.contains(cursor.count) && self.fields.count(field);
+            self.append_if(is_asked, is_begun, cursor.count, field, text)?;
+            is_begun |= is_asked;
+        }
+        Ok(is_begun)
+    }
+
     /// Appends the field of this number if that is asked for, after a delimiter if there are fields before it.
     fn append_if<'t>(
         &self,
@@ -187,8 +217,8 @@ impl<F: Format, G: Format> Line<'_, F, G> {
         text: &mut LineText,
     ) -> Result<(), LineFault<'t>>
         ensures { AddsIf (if is_asked then after (if is_begun then output_delimiter self.now.fields.now ∷ [] else [])
-            (field_written self.now.job.now.rules.now self.now.fields.now self.now.job.now.parser
-            self.now.job.now.to.now self.now.number count (is_chosen self.now.fields.now.list.now count) field.now)
+            (field_written self.now.setup.now.rules.now self.now.fields.now self.now.setup.now.parser
+            self.now.setup.now.to.now self.now.number count field.now)
             else Ok [])
             text.old text.new (result_map_both (λ added. added) line_fault_of result) }
     {
@@ -218,8 +248,8 @@ impl<F: Format, G: Format> Line<'_, F, G> {
         field: &'t [u8],
         text: &mut LineText,
     ) -> Result<(), LineFault<'t>>
-        ensures { AddsIf (field_written self.now.job.now.rules.now self.now.fields.now self.now.job.now.parser
-            self.now.job.now.to.now self.now.number count (is_chosen self.now.fields.now.list.now count) field.now)
+        ensures { AddsIf (field_written self.now.setup.now.rules.now self.now.fields.now self.now.setup.now.parser
+            self.now.setup.now.to.now self.now.number count field.now)
             text.old text.new (result_map_both (λ added. added) line_fault_of result) }
     {
         match self.read(count, field)? {
@@ -232,19 +262,20 @@ impl<F: Format, G: Format> Line<'_, F, G> {
     /// Reads the number in the field of this number, and returns it with its place, if the field is chosen and may not
     /// be empty. Where fields may be in quotes, no number has a quote or a line end.
     #[inline(always)]
-    fn read<'t>(&self, count: u64, field: &'t [u8]) -> Result<Option<Found>, LineFault<'t>>
+    fn read<'t>(&self, count: u64, field: &'t [u8]) -> Result<Option<FieldNumber>, LineFault<'t>>
         ensures number { (to : NotationData)
-            → result_map_both (field_as self.now.fields.now self.now.job.now.rules.now.line_end to field.now)
+            → result_map_both (field_as self.now.fields.now self.now.setup.now.rules.now.line_end to field.now)
             line_fault_of result
-            ≡ field_written self.now.job.now.rules.now self.now.fields.now self.now.job.now.parser to self.now.number
-            count (is_chosen self.now.fields.now.list.now count) field.now }
+            ≡ field_written self.now.setup.now.rules.now self.now.fields.now self.now.setup.now.parser to
+            self.now.number count field.now }
         ensures place { IfOk result (λ found. IfSome found (IsFoundIn (length field.now))) }
     {
-        if !self.fields.contain(count) {
+        if !self.fields.contain(count, field) {
             return Ok(None);
         }
-        let (rules, quotes) = (self.job.rules, self.fields.quotes);
-        let (place, is_quoted) = place_in(quotes, field);
+        let (rules, quotes) = (self.setup.rules, self.fields.quotes);
+        let (whole, is_quoted) = place_in(quotes, field);
+        let place = without_affixes(rules.affixes, field, whole);
         let (start, end) = (place.start, place.end);
         if rules.passes_empty && start == end {
             return Ok(None);
@@ -253,8 +284,8 @@ impl<F: Format, G: Format> Line<'_, F, G> {
         if quotes && is_any_barred(rules.line_end, text) {
             return Err(LineFault::NotAField(self.number, count, text));
         }
-        match self.job.parser.read(rules.reading, text, self.number) {
-            Ok(value) => Ok(Some(Found {
+        match self.setup.parser.read(rules.reading, text, self.number) {
+            Ok(value) => Ok(Some(FieldNumber {
                 is_quoted,
                 start,
                 end,
@@ -266,12 +297,12 @@ impl<F: Format, G: Format> Line<'_, F, G> {
 
     /// Appends a field with the number that was found in it regrouped.
     #[inline(always)]
-    fn append_found(&self, field: &[u8], found: &Found, text: &mut LineText)
+    fn append_found(&self, field: &[u8], found: &FieldNumber, text: &mut LineText)
         requires { IsFoundIn (length field.now) found.now }
-        ensures { Adds text.old text.new (field_as self.now.fields.now self.now.job.now.rules.now.line_end
-            self.now.job.now.to.now field.now (Some found.now)) }
+        ensures { Adds text.old text.new (field_as self.now.fields.now self.now.setup.now.rules.now.line_end
+            self.now.setup.now.to.now field.now (Some found.now)) }
     {
-        let to = self.job.to;
+        let to = self.setup.to;
         if to.digits.is_latin() {
             let mut number = DecimalBuffer::new();
             number.write_formatted(&found.value, to.format);
@@ -284,32 +315,32 @@ impl<F: Format, G: Format> Line<'_, F, G> {
     /// text.
     #[cold]
     #[inline(never)]
-    fn append_in_digits(&self, field: &[u8], found: &Found, text: &mut LineText)
+    fn append_in_digits(&self, field: &[u8], found: &FieldNumber, text: &mut LineText)
         requires { IsFoundIn (length field.now) found.now }
-        ensures { Adds text.old text.new (field_as self.now.fields.now self.now.job.now.rules.now.line_end
-            self.now.job.now.to.now field.now (Some found.now)) }
+        ensures { Adds text.old text.new (field_as self.now.fields.now self.now.setup.now.rules.now.line_end
+            self.now.setup.now.to.now field.now (Some found.now)) }
     {
-        let to = self.job.to;
+        let to = self.setup.to;
         let number = DigitText::of_decimal(&found.value, to.format, to.digits);
         self.append_text(field, found, number.as_str(), text)
     }
 
     /// Appends a field with this text in place of the number that was found in it.
     #[inline(always)]
-    fn append_text(&self, field: &[u8], found: &Found, number: &str, text: &mut LineText)
+    fn append_text(&self, field: &[u8], found: &FieldNumber, number: &str, text: &mut LineText)
         requires { IsFoundIn (length field.now) found.now }
-        ensures { Adds text.old text.new (placed self.now.fields.now self.now.job.now.rules.now.line_end
+        ensures { Adds text.old text.new (placed self.now.fields.now self.now.setup.now.rules.now.line_end
             found.now.is_quoted field.now (found.now.start, found.now.end) number.now) }
     {
         let (is_quoted, number) = (found.is_quoted, number.as_bytes());
         match self.output_of(is_quoted, number) {
             Some(output) => {
-                let around = Around {
+                let around = Surroundings {
                     is_quoted,
                     before: &field[is_quoted as usize..found.start],
                     after: &field[found.end..],
                 };
-                append_output(output, self.job.rules.line_end, around, number, text)
+                append_output(output, self.setup.rules.line_end, around, number, text)
             }
             None => {
                 let number = if is_quoted {
@@ -330,12 +361,12 @@ impl<F: Format, G: Format> Line<'_, F, G> {
     #[inline(always)]
     fn append_passed(&self, field: &[u8], text: &mut LineText)
         ensures { Adds text.old text.new (passed_as self.now.fields.now.output self.now.fields.now.quotes
-            self.now.job.now.rules.now.line_end field.now) }
+            self.now.setup.now.rules.now.line_end field.now) }
     {
         let Some(output) = self.fields.output else {
             return text.append(field);
         };
-        let line_end = self.job.rules.line_end;
+        let line_end = self.setup.rules.line_end;
         if output.is_bare() {
             return text.append(&[]);
         }
@@ -343,7 +374,7 @@ impl<F: Format, G: Format> Line<'_, F, G> {
             return text.append(field);
         }
         let is_quoted = self.fields.quotes && is_opened(field);
-        let around = Around {
+        let around = Surroundings {
             is_quoted,
             before: &[],
             after: &field[is_quoted as usize..],
@@ -354,9 +385,9 @@ impl<F: Format, G: Format> Line<'_, F, G> {
     /// Returns how a field with this text of a number is written, if it is written anew: as the output says, or with
     /// the quotes that the text needs and the field has not.
     fn output_of(&self, is_quoted: bool, text: &[u8]) -> Option<Output>
-        ensures { result ≡ output_of self.now.fields.now self.now.job.now.rules.now.line_end is_quoted text.now }
+        ensures { result ≡ output_of self.now.fields.now self.now.setup.now.rules.now.line_end is_quoted text.now }
     {
-        let (fields, line_end) = (self.fields, self.job.rules.line_end);
+        let (fields, line_end) = (self.fields, self.setup.rules.line_end);
         if fields.output.is_none()
             && fields.quotes
             && !is_quoted
@@ -371,7 +402,7 @@ impl<F: Format, G: Format> Line<'_, F, G> {
     }
 }
 
-/// Returns where the number is in a field, and whether quotes are around it.
+/// Returns where the number is in a field with what may be before and after it, and whether quotes are around it.
 pub(crate) fn place_in(quotes: bool, field: &[u8]) -> (Range<usize>, bool)
     ensures place { place_of result.0 ≡ number_place quotes field.now }
     ensures quoted { result.1 ≡ (quotes && is_quoted field.now (trimmed field.now (0, length field.now))) }
@@ -407,7 +438,7 @@ fn is_opened(field: &[u8]) -> bool
 fn append_output(
     output: Output,
     line_end: u8,
-    around: Around<'_>,
+    around: Surroundings<'_>,
     number: &[u8],
     text: &mut LineText,
 )
@@ -425,7 +456,7 @@ fn append_output(
 fn append_around(
     output: Output,
     line_end: u8,
-    around: Around<'_>,
+    around: Surroundings<'_>,
     number: &[u8],
     text: &mut LineText,
 )

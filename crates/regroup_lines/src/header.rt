@@ -6,8 +6,8 @@ ghost use Rattle.regroup_lines.specs.Header.{IsHeader, is_named, misnamed_of, nu
 ghost use Rattle.regroup_lines.specs.Input.{Reads};
 
 use crate::fields::place_in;
-use crate::input::{Input, Piece};
-use crate::records::{Within, find_end};
+use crate::input::{Input, InputPiece};
+use crate::records::{CsvState, find_end};
 use crate::rules::{Fields, MARK, QUOTE, Rules};
 use regroup_faults::RegroupFault;
 use std::io;
@@ -50,10 +50,10 @@ pub fn read_header<'a, R: Read>(
         (R.remaining r.old) (R.remaining r.new)) }
 {
     let mut input = Input::new(array);
-    let piece = input.next_piece(rules, Within::first(1), r, &mut io::sink())?;
+    let piece = input.next_piece(rules, CsvState::first(1), r, &mut io::sink())?;
     let (array, held) = input.into_parts();
     match piece {
-        Piece::Line(place) => {
+        InputPiece::Line(place) => {
             let (start, end) = (place.start, place.end);
             Ok(Header {
                 text: unmarked(&array[start..end]),
@@ -61,7 +61,7 @@ pub fn read_header<'a, R: Read>(
                 rest: held,
             })
         }
-        Piece::Rest(place) => {
+        InputPiece::Rest(place) => {
             let line = &array[place];
             Ok(Header {
                 text: unmarked(line),
@@ -69,7 +69,7 @@ pub fn read_header<'a, R: Read>(
                 rest: &[],
             })
         }
-        Piece::TooLong => Ok(Header {
+        InputPiece::TooLong => Ok(Header {
             text: unmarked(held),
             line: held,
             rest: &[],
@@ -93,7 +93,7 @@ fn unmarked(text: &[u8]) -> &[u8]
 ///
 /// ```rust
 /// let (list, delimiter, quotes, output, only) = ([].as_slice(), b',', true, None, false);
-/// let fields = Fields { list, delimiter, quotes, output, only };
+/// let fields = Fields { list, delimiter, quotes, output, only, blanks: false };
 /// field_named(&fields, b"id,\"net \"\"EUR\"\"\"", "net \"EUR\"")    // Ok(2)
 /// field_named(&fields, b"id,net,net", "net")                         // Err(Doubled("net"))
 /// ```
@@ -107,9 +107,10 @@ pub fn field_named<'a>(fields: &Fields, header: &[u8], name: &'a str) -> Result<
     let (quotes, delimiter) = (fields.quotes(), fields.delimiter);
     let (mut found, mut count, mut rest) = (None, 0, header);
     'fields: loop {
-        let (len, _) = find_end(quotes, delimiter, Within::Start, rest);
-        count += 1;
-        if is_named(fields.quotes, &rest[..len], name.as_bytes()) {
+        let (len, _) = find_end(quotes, delimiter, CsvState::Start, rest);
+        let field = &rest[..len];
+        count = fields.number_after(count, field);
+        if is_named(fields, field, name.as_bytes()) {
             if found.is_some() {
                 return Err(NameFault::Doubled(name));
             }
@@ -122,11 +123,14 @@ pub fn field_named<'a>(fields: &Fields, header: &[u8], name: &'a str) -> Result<
     }
 }
 
-/// Returns whether a field of a header has this name.
-fn is_named(quotes: bool, field: &[u8], name: &[u8]) -> bool
-    ensures { result ≡ is_named quotes name.now field.now }
+/// Returns whether a field of a header is counted and has this name.
+fn is_named(fields: &Fields, field: &[u8], name: &[u8]) -> bool
+    ensures { result ≡ is_named fields.now name.now field.now }
 {
-    let (place, is_quoted) = place_in(quotes, field);
+    if !fields.count(field) {
+        return false;
+    }
+    let (place, is_quoted) = place_in(fields.quotes, field);
     let text = &field[place];
     if is_quoted {
         is_doubled(text, name)

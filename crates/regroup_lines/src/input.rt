@@ -6,7 +6,7 @@ ghost use Rattle.regroup_lines.specs.LineFaults.{IsHalt, line_fault_of};
 ghost use Rattle.regroup_lines.specs.Lines.{quotes_in};
 
 use crate::line_fault::LineFault;
-use crate::records::{Within, ends_with, find_end};
+use crate::records::{CsvState, ends_with, find_end};
 use crate::rules::Rules;
 use std::io::{Read, Write};
 use std::ops::Range;
@@ -15,7 +15,7 @@ use std::ops::Range;
 const MAX_READ_LEN: usize = 65536;
 
 /// A piece of the input, by its place in the array.
-pub(crate) enum Piece {
+pub(crate) enum InputPiece {
     /// A line, or a record, without the byte that ends it.
     Line(Range<usize>),
     /// What stands after the last line, where the reader ended. The byte that ends lines was put after it.
@@ -109,10 +109,10 @@ impl<'a> Input<'a> {
     pub(crate) fn next_piece<R: Read, W: Write>(
         &mut self,
         rules: &Rules,
-        within: Within,
+        within: CsvState,
         reader: &mut R,
         writer: &mut W,
-    ) -> Result<Piece, LineFault<'static>>
+    ) -> Result<InputPiece, LineFault<'static>>
         ensures piece { IfOk result (FindsPiece (quotes_in rules.now.span) rules.now.line_end within
             (held self.old) self.new
             (R.remaining reader.old) (R.remaining reader.new)) }
@@ -131,16 +131,16 @@ impl<'a> Input<'a> {
             let rest = &self.held()[searched..];
             let (len, after) = find_end(quotes, rules.line_end, here, rest);
             if len < rest.len() {
-                return Ok(Piece::Line(self.take_ended(searched + len)));
+                return Ok(InputPiece::Line(self.take_ended(searched + len)));
             }
             here = after;
             searched += len;
             if searched == self.array.len() {
-                return Ok(Piece::TooLong);
+                return Ok(InputPiece::TooLong);
             }
             let count = self.read_more(rules.flushes, reader, writer)?;
             if count == 0 {
-                return Ok(Piece::Rest(self.take_rest(rules.line_end)));
+                return Ok(InputPiece::Rest(self.take_rest(rules.line_end)));
             }
         }
     }

@@ -15,10 +15,10 @@
 //! The input is read into an array, and parsed there.
 #![tactic(auto)]
 
+mod cursor;
 mod fields;
 mod header;
 mod input;
-mod job;
 pub mod laws;
 mod line_fault;
 mod line_text;
@@ -26,6 +26,7 @@ mod number;
 mod records;
 pub mod rules;
 mod sending;
+mod setup;
 
 ghost use Rattle.std.specs.Prelude.{◌≡◌, ◌+◌, ◌++◌, [], ◌≤◌, Ok, length, slice_range, take, true};
 ghost use Rattle.std.specs.Result.{result_map_both};
@@ -47,15 +48,15 @@ ghost use Rattle.regroup_lines.specs.Sending.{SendsLine, by_writer};
 
 use crate::fields::{append_chosen, append_fields};
 pub use crate::header::{Header, NameFault, field_named, read_header};
-use crate::input::{Input, Piece, Record};
-use crate::job::Job;
+use crate::input::{Input, InputPiece, Record};
 use crate::line_fault::LineFault;
 use crate::line_text::LineText;
 use crate::number::Parser;
-use crate::records::{Within, ends_with, is_open, line_reached};
-use crate::rules::trim;
+use crate::records::{CsvState, ends_with, is_open, line_reached};
+use crate::rules::{trim, without_affixes};
 pub use crate::rules::{FieldRange, Fields, Invalid, Output, Quoting, Rules, Span};
 use crate::sending::{send_number, send_whole};
+use crate::setup::Setup;
 use num_format::Format;
 use num_format::to_formatted_string::write_whole;
 use regroup_faults::fault_message;
@@ -74,6 +75,7 @@ pub const MAX_LINES: u64 = 1_000_000;
 /// The rules of [`regroup_lines`].
 const LENIENT: Rules = Rules {
     span: Span::Line,
+    affixes: None,
     reading: Reading {
         parsing: Parsing::Lenient,
         scale: None,
@@ -159,6 +161,7 @@ pub fn regroup_lines<R: Read, W: Write, F: Format, G: Format>(
 /// ```rust
 /// let rules = Rules {
 ///     span: Span::Line,
+///     affixes: None,
 ///     reading: Reading { parsing: Parsing::Strict, scale: None },
 ///     header_lines: 1,
 ///     passes_empty: false,
@@ -220,7 +223,7 @@ pub fn regroup_at_most<R: Read, W: Write, E: Write, X: Write, F: Format, G: Form
         (by_writer (W.contents w.new) (E.contents e.new) (X.contents x.new))
         (result_map_both (λ summary. summary) fault_of result) }
 {
-    let job = Job {
+    let setup = Setup {
         rules,
         name,
         parser: Parser::new(from),
@@ -230,27 +233,27 @@ pub fn regroup_at_most<R: Read, W: Write, E: Write, X: Write, F: Format, G: Form
     let mut text = LineText::new(alloc);
     let (mut number, mut has_faults) = (1, false);
     for lines in 0..most {
-        match input.next_piece(rules, Within::first(number), r, w)? {
-            Piece::Line(place) => {
+        match input.next_piece(rules, CsvState::first(number), r, w)? {
+            InputPiece::Line(place) => {
                 let line = input.line(place, number);
-                has_faults |= regroup_line(&job, &line, &mut text, w, e, x)?;
+                has_faults |= regroup_line(&setup, &line, &mut text, w, e, x)?;
                 number = line_after(rules, number, line.text);
             }
-            Piece::Rest(place) => {
+            InputPiece::Rest(place) => {
                 let line = input.line(place, number);
                 if line.text.is_empty() {
                     return Ok(Summary { lines, has_faults });
                 }
-                has_faults |= regroup_last(&job, &line, &mut text, w, e, x)?;
+                has_faults |= regroup_last(&setup, &line, &mut text, w, e, x)?;
                 let lines = lines + 1;
                 return Ok(Summary { lines, has_faults });
             }
-            Piece::TooLong => {
+            InputPiece::TooLong => {
                 let fault = long_fault(rules, number, &input);
                 if !rules.invalid.passes() {
                     return Err(fault);
                 }
-                has_faults |= name_fault(&job, &fault, e)?;
+                has_faults |= name_fault(&setup, &fault, e)?;
                 if send_long(rules, &mut number, &mut input, r, w, x)? {
                     let lines = lines + 1;
                     return Ok(Summary { lines, has_faults });
@@ -291,49 +294,49 @@ fn long_fault(rules: &Rules, number: u64, input: &Input<'_>) -> RegroupFault
 #[cold]
 #[inline(never)]
 fn regroup_last<'a, W: Write, E: Write, X: Write, F: Format, G: Format>(
-    job: &Job<F, G>,
+    setup: &Setup<F, G>,
     line: &Record<'a>,
     text: &mut LineText,
     w: &mut W,
     e: &mut E,
     x: &mut X,
 ) -> Result<bool, LineFault<'a>>
-    requires { IsEnded job.now.rules.now.line_end line.now }
-    ensures { SendsEach job.now.name.now job.now.rules.now.reading job.now.parser
-        (record_sent job.now.rules.now job.now.parser job.now.to.now line.now.number line.now.text.now)
+    requires { IsEnded setup.now.rules.now.line_end line.now }
+    ensures { SendsEach setup.now.name.now setup.now.rules.now.reading setup.now.parser
+        (record_sent setup.now.rules.now setup.now.parser setup.now.to.now line.now.number line.now.text.now)
         (by_writer (W.contents w.old) (E.contents e.old) (X.contents x.old))
         (by_writer (W.contents w.new) (E.contents e.new) (X.contents x.new))
         (result_map_both (λ told. told) line_fault_of result) }
 {
-    if is_open(job.rules, line.number, line.text) {
-        let ended = line.ended_once(job.rules.line_end, false);
-        return pass_fault(job, LineFault::Unclosed(line.number), ended, w, e, x);
+    if is_open(setup.rules, line.number, line.text) {
+        let ended = line.ended_once(setup.rules.line_end, false);
+        return pass_fault(setup, LineFault::Unclosed(line.number), ended, w, e, x);
     }
-    regroup_line(job, line, text, w, e, x)
+    regroup_line(setup, line, text, w, e, x)
 }
 
 /// Sends what is written in place of the text of a line, and the byte that ends it, and before them the message that
 /// names its fault, if there is one. Returns whether there is.
 fn regroup_line<'a, W: Write, E: Write, X: Write, F: Format, G: Format>(
-    job: &Job<F, G>,
+    setup: &Setup<F, G>,
     line: &Record<'a>,
     text: &mut LineText,
     w: &mut W,
     e: &mut E,
     x: &mut X,
 ) -> Result<bool, LineFault<'a>>
-    requires { IsEnded job.now.rules.now.line_end line.now }
-    ensures { SendsEach job.now.name.now job.now.rules.now.reading job.now.parser
-        (text_sent job.now.rules.now job.now.parser job.now.to.now line.now.number line.now.text.now)
+    requires { IsEnded setup.now.rules.now.line_end line.now }
+    ensures { SendsEach setup.now.name.now setup.now.rules.now.reading setup.now.parser
+        (text_sent setup.now.rules.now setup.now.parser setup.now.to.now line.now.number line.now.text.now)
         (by_writer (W.contents w.old) (E.contents e.old) (X.contents x.old))
         (by_writer (W.contents w.new) (E.contents e.new) (X.contents x.new))
         (result_map_both (λ told. told) line_fault_of result) }
 {
-    match regroup_body(job, line, text, w) {
+    match regroup_body(setup, line, text, w) {
         Ok(()) => Ok(false),
         Err(fault) => match fault {
             LineFault::Write => Err(LineFault::Write),
-            _ => pass_fault(job, fault, line.ended, w, e, x),
+            _ => pass_fault(setup, fault, line.ended, w, e, x),
         },
     }
 }
@@ -343,43 +346,43 @@ fn regroup_line<'a, W: Write, E: Write, X: Write, F: Format, G: Format>(
 #[cold]
 #[inline(never)]
 fn pass_fault<'a, W: Write, E: Write, X: Write, F: Format, G: Format>(
-    job: &Job<F, G>,
+    setup: &Setup<F, G>,
     fault: LineFault<'a>,
     ended: &[u8],
     w: &mut W,
     e: &mut E,
     x: &mut X,
 ) -> Result<bool, LineFault<'a>>
-    ensures { SendsEach job.now.name.now job.now.rules.now.reading job.now.parser
-        (fault_sent job.now.rules.now (line_fault_of fault.entry) ended.now)
+    ensures { SendsEach setup.now.name.now setup.now.rules.now.reading setup.now.parser
+        (fault_sent setup.now.rules.now (line_fault_of fault.entry) ended.now)
         (by_writer (W.contents w.old) (E.contents e.old) (X.contents x.old))
         (by_writer (W.contents w.new) (E.contents e.new) (X.contents x.new))
         (result_map_both (λ told. told) line_fault_of result) }
 {
-    if !job.rules.invalid.passes() {
+    if !setup.rules.invalid.passes() {
         return Err(fault);
     }
-    let is_named = name_fault(job, &RegroupFault::from(fault), e)?;
-    pass_bytes(job.rules, ended, w, x)?;
+    let is_named = name_fault(setup, &RegroupFault::from(fault), e)?;
+    pass_bytes(setup.rules, ended, w, x)?;
     Ok(is_named)
 }
 
 /// Sends the message that names a fault, if the rules say so, and returns whether they do.
 fn name_fault<E: Write, F: Format, G: Format>(
-    job: &Job<F, G>,
+    setup: &Setup<F, G>,
     fault: &RegroupFault,
     e: &mut E,
 ) -> Result<bool, LineFault<'static>>
-    ensures { Names (messages job.now.name.now job.now.rules.now.reading job.now.parser
-        (fault_named job.now.rules.now.invalid (fault_of fault.now)))
-        (are_any (fault_named job.now.rules.now.invalid (fault_of fault.now)))
+    ensures { Names (messages setup.now.name.now setup.now.rules.now.reading setup.now.parser
+        (fault_named setup.now.rules.now.invalid (fault_of fault.now)))
+        (are_any (fault_named setup.now.rules.now.invalid (fault_of fault.now)))
         (E.contents e.old) (E.contents e.new) (result_map_both (λ told. told) line_fault_of result) }
 {
-    match job.rules.invalid {
+    match setup.rules.invalid {
         Invalid::Abort | Invalid::Ignore => Ok(false),
         Invalid::Fail | Invalid::Warn => {
-            let from = job.parser.notation();
-            let message = fault_message(job.name, job.rules.reading, fault, &from);
+            let from = setup.parser.notation();
+            let message = fault_message(setup.name, setup.rules.reading, fault, &from);
             write_whole(message.as_str().as_bytes(), e).or(Err(LineFault::Report))?;
             Ok(true)
         }
@@ -407,22 +410,22 @@ fn send_long<R: Read, W: Write, X: Write>(
         (result_map_both (λ ended. ended) fault_of result) }
     ensures len { array_len input.new ≡ array_len input.old }
 {
-    let (mut within, mut is_ended) = (Within::first(*number), false);
+    let (mut within, mut is_ended) = (CsvState::first(*number), false);
     send_held(rules, &mut within, number, &mut is_ended, input, w, x)?;
     for _ in 0..u64::MAX {
         match input.next_piece(rules, within, r, w) {
-            Ok(Piece::Line(place)) => {
+            Ok(InputPiece::Line(place)) => {
                 let line = input.line(place, *number);
                 pass_bytes(rules, line.ended, w, x)?;
                 *number = line_after(rules, *number, line.text);
                 return Ok(false);
             }
-            Ok(Piece::Rest(place)) => {
+            Ok(InputPiece::Rest(place)) => {
                 let line = input.line(place, *number);
                 pass_bytes(rules, line.ended_once(rules.line_end, is_ended), w, x)?;
                 return Ok(true);
             }
-            Ok(Piece::TooLong) => {
+            Ok(InputPiece::TooLong) => {
                 send_held(rules, &mut within, number, &mut is_ended, input, w, x)?;
             }
             Err(halt) => {
@@ -439,7 +442,7 @@ fn send_long<R: Read, W: Write, X: Write>(
 /// to theirs.
 fn send_held<W: Write, X: Write>(
     rules: &Rules,
-    within: &mut Within,
+    within: &mut CsvState,
     number: &mut u64,
     is_ended: &mut bool,
     input: &mut Input<'_>,
@@ -487,68 +490,68 @@ fn pass_bytes<W: Write, X: Write>(
 /// are passed on.
 #[inline(always)]
 fn regroup_body<'a, W: Write, F: Format, G: Format>(
-    job: &Job<F, G>,
+    setup: &Setup<F, G>,
     line: &Record<'a>,
     text: &mut LineText,
     w: &mut W,
 ) -> Result<(), LineFault<'a>>
-    requires { IsEnded job.now.rules.now.line_end line.now }
-    ensures { SendsLine job.now.rules.now.line_end (body_written job.now.rules.now job.now.parser
-        job.now.to.now line.now.number line.now.text.now)
+    requires { IsEnded setup.now.rules.now.line_end line.now }
+    ensures { SendsLine setup.now.rules.now.line_end (body_written setup.now.rules.now setup.now.parser
+        setup.now.to.now line.now.number line.now.text.now)
         (W.contents w.old) (W.contents w.new) (result_map_both (λ sent. sent) line_fault_of result) }
 {
-    let rules = job.rules;
+    let rules = setup.rules;
     let mark_len = rules.span.mark_len(line.number, line.text);
     let rest = &line.text[mark_len..];
     let place = match &rules.span {
         Span::Fields(fields) => {
             text.restart(&line.text[..mark_len]);
-            append_body(job, fields, line.number, rest, text)?;
+            append_body(setup, fields, line.number, rest, text)?;
             return text.send(rules.line_end, w);
         }
         Span::Line => 0..rest.len(),
-        Span::Trimmed => trim(rest, 0..rest.len()),
+        Span::Trimmed => without_affixes(rules.affixes, rest, trim(rest, 0..rest.len())),
     };
     if line.number <= rules.header_lines {
         return send_whole(line.ended, w).or(Err(LineFault::Write));
     }
     let place = mark_len + place.start..mark_len + place.end;
-    regroup_place(job, line, place, w)
+    regroup_place(setup, line, place, w)
 }
 
 /// Appends a line with the number in each chosen field regrouped, or these fields alone, or a header.
 #[inline(always)]
 fn append_body<'a, F: Format, G: Format>(
-    job: &Job<F, G>,
+    setup: &Setup<F, G>,
     fields: &Fields,
     number: u64,
     line: &'a [u8],
     text: &mut LineText,
 ) -> Result<(), LineFault<'a>>
-    requires { job.now.rules.now.span ≡ span.Fields fields.now }
-    ensures { AddsIf (unmarked_written job.now.rules.now job.now.parser job.now.to.now number line.now)
+    requires { setup.now.rules.now.span ≡ span.Fields fields.now }
+    ensures { AddsIf (unmarked_written setup.now.rules.now setup.now.parser setup.now.to.now number line.now)
         text.old text.new (result_map_both (λ added. added) line_fault_of result) }
 {
-    if number <= job.rules.header_lines {
-        return append_header(job, fields, number, line, text);
+    if number <= setup.rules.header_lines {
+        return append_header(setup, fields, number, line, text);
     }
     if fields.only {
-        return append_chosen(job, fields, fields.list, number, line, text);
+        return append_chosen(setup, fields, fields.list, number, line, text);
     }
-    append_fields(job, fields, number, line, text)
+    append_fields(setup, fields, number, line, text)
 }
 
 /// Appends a header. It has no number.
 #[cold]
 #[inline(never)]
 fn append_header<'a, F: Format, G: Format>(
-    job: &Job<F, G>,
+    setup: &Setup<F, G>,
     fields: &Fields,
     number: u64,
     line: &'a [u8],
     text: &mut LineText,
 ) -> Result<(), LineFault<'a>>
-    ensures { AddsIf (Ok (header_written (span.Fields fields.now) job.now.rules.now.line_end line.now))
+    ensures { AddsIf (Ok (header_written (span.Fields fields.now) setup.now.rules.now.line_end line.now))
         text.old text.new (result_map_both (λ added. added) line_fault_of result) }
 {
     let none = Fields {
@@ -556,35 +559,35 @@ fn append_header<'a, F: Format, G: Format>(
         ..*fields
     };
     if fields.only {
-        return append_chosen(job, &none, fields.list, number, line, text);
+        return append_chosen(setup, &none, fields.list, number, line, text);
     }
-    append_fields(job, &none, number, line, text)
+    append_fields(setup, &none, number, line, text)
 }
 
 /// Sends a line with the number at this place regrouped, and the byte that ends it.
 #[inline(always)]
 fn regroup_place<'a, W: Write, F: Format, G: Format>(
-    job: &Job<F, G>,
+    setup: &Setup<F, G>,
     line: &Record<'a>,
     place: Range<usize>,
     w: &mut W,
 ) -> Result<(), LineFault<'a>>
-    requires ended { IsEnded job.now.rules.now.line_end line.now }
+    requires ended { IsEnded setup.now.rules.now.line_end line.now }
     requires ordered { place.start ≤ place.end }
     requires within { place.end ≤ length line.now.text.now }
-    ensures { SendsLine job.now.rules.now.line_end
-        (place_written job.now.rules.now job.now.parser job.now.to.now line.now.number line.now.text.now
+    ensures { SendsLine setup.now.rules.now.line_end
+        (place_written setup.now.rules.now setup.now.parser setup.now.to.now line.now.number line.now.text.now
         (place_of place))
         (W.contents w.old) (W.contents w.new) (result_map_both (λ sent. sent) line_fault_of result) }
 {
-    let (rules, text) = (job.rules, line.text);
+    let (rules, text) = (setup.rules, line.text);
     let (start, end) = (place.start, place.end);
     if rules.passes_empty && start == end {
         return send_whole(line.ended, w).or(Err(LineFault::Write));
     }
-    let (parser, digits) = (&job.parser, &text[start..end]);
+    let (parser, digits) = (&setup.parser, &text[start..end]);
     let value = parser.read(rules.reading, digits, line.number)?;
     let (before, after) = (&text[..start], &text[end..]);
-    let sent = send_number(before, &value, job.to, after, rules.line_end, w);
+    let sent = send_number(before, &value, setup.to, after, rules.line_end, w);
     sent.or(Err(LineFault::Write))
 }

@@ -15,7 +15,7 @@ use std::marker::Model;
 
 /// A part of a text.
 #[derive(Clone, Copy)]
-pub(crate) enum Part<'a> {
+pub(crate) enum TextPart<'a> {
     /// These bytes.
     Plain(&'a [u8]),
     /// These bytes, with each quote doubled.
@@ -87,7 +87,7 @@ impl LineText {
 
     /// Appends the parts of a text in turn.
     #[inline(always)]
-    pub(crate) fn append_all(&mut self, parts: &[Part<'_>])
+    pub(crate) fn append_all(&mut self, parts: &[TextPart<'_>])
         ensures { Adds self.old self.new (flat_map part_text parts.now) }
     {
         for part in parts {
@@ -97,12 +97,12 @@ impl LineText {
 
     /// Appends a part of a text.
     #[inline(always)]
-    fn append_part(&mut self, part: &Part<'_>)
+    fn append_part(&mut self, part: &TextPart<'_>)
         ensures { Adds self.old self.new (part_text part.now) }
     {
         match part {
-            Part::Plain(text) => self.append(text),
-            Part::Doubled(text) => self.append_doubled(text),
+            TextPart::Plain(text) => self.append(text),
+            TextPart::Doubled(text) => self.append_doubled(text),
         }
     }
 

@@ -10,7 +10,7 @@ use memchr::{memchr, memchr2};
 
 /// Where the next byte of a record is.
 #[derive(Clone, Copy, Debug, PartialEq, Eq)]
-pub(crate) enum Within {
+pub(crate) enum CsvState {
     /// At the start of an input: a byte order mark may be there, or the first field.
     Mark,
     /// After the first byte of a byte order mark.
@@ -26,22 +26,22 @@ pub(crate) enum Within {
     Quoted,
 }
 
-impl Within {
+impl CsvState {
     /// Returns where the first byte of a record is that begins in the line of this number.
     #[inline]
-    pub(crate) fn first(number: u64) -> Within
+    pub(crate) fn first(number: u64) -> CsvState
         ensures { result ≡ record_start number }
     {
         if number == 1 {
-            Within::Mark
+            CsvState::Mark
         } else {
-            Within::Start
+            CsvState::Start
         }
     }
 
     /// Returns where the byte after a text is.
     #[inline]
-    pub(crate) fn after(self, quotes: Option<u8>, text: &[u8]) -> Within
+    pub(crate) fn after(self, quotes: Option<u8>, text: &[u8]) -> CsvState
         ensures { result ≡ after_text quotes self text.now }
     {
         text.iter()
@@ -51,13 +51,13 @@ impl Within {
     /// Returns where the byte after a text without quotes is: in quotes no other byte matters, and outside them, behind
     /// a mark, the last one tells.
     #[inline]
-    fn after_plain(self, quotes: Option<u8>, text: &[u8]) -> Within
+    fn after_plain(self, quotes: Option<u8>, text: &[u8]) -> CsvState
         requires { All (λ b. is_quote b ≡ false) text.now }
         ensures { result ≡ after_text quotes self text.now }
     {
         match self {
-            Within::Quoted => self,
-            Within::Start | Within::Bare => match text {
+            CsvState::Quoted => self,
+            CsvState::Start | CsvState::Bare => match text {
                 [.., last] => self.after_byte(quotes, *last),
                 [] => self,
             },
@@ -67,21 +67,21 @@ impl Within {
 
     /// Returns where the byte after this one is, by the delimiter of the fields that may be in quotes, if they may.
     #[inline]
-    fn after_byte(self, quotes: Option<u8>, byte: u8) -> Within
+    fn after_byte(self, quotes: Option<u8>, byte: u8) -> CsvState
         ensures { result ≡ after_byte quotes self byte }
     {
         let Some(delimiter) = quotes else {
             return self;
         };
         match self {
-            Within::Quoted if byte == QUOTE => Within::Start,
-            Within::Quoted => Within::Quoted,
-            Within::Start | Within::Mark if byte == QUOTE => Within::Quoted,
-            _ if byte == delimiter => Within::Start,
-            Within::Mark if byte == MARK[0] => Within::Mark1,
-            Within::Mark1 if byte == MARK[1] => Within::Mark2,
-            Within::Mark2 if byte == MARK[2] => Within::Start,
-            _ => Within::Bare,
+            CsvState::Quoted if byte == QUOTE => CsvState::Start,
+            CsvState::Quoted => CsvState::Quoted,
+            CsvState::Start | CsvState::Mark if byte == QUOTE => CsvState::Quoted,
+            _ if byte == delimiter => CsvState::Start,
+            CsvState::Mark if byte == MARK[0] => CsvState::Mark1,
+            CsvState::Mark1 if byte == MARK[1] => CsvState::Mark2,
+            CsvState::Mark2 if byte == MARK[2] => CsvState::Start,
+            _ => CsvState::Bare,
         }
     }
 
@@ -90,7 +90,7 @@ impl Within {
     fn is_inside(self) -> bool
         ensures { result ≡ is_inside self }
     {
-        matches!(self, Within::Quoted)
+        matches!(self, CsvState::Quoted)
     }
 }
 
@@ -99,7 +99,12 @@ impl Within {
 ///
 /// It goes from one quote or byte of this value to the next.
 #[inline(always)]
-pub(crate) fn find_end(quotes: Option<u8>, end: u8, within: Within, text: &[u8]) -> (usize, Within)
+pub(crate) fn find_end(
+    quotes: Option<u8>,
+    end: u8,
+    within: CsvState,
+    text: &[u8],
+) -> (usize, CsvState)
     ensures searched { Searched quotes end within text.now result.0 result.1 }
     ensures found { result.0 < length text.now → (get_or text.now result.0 0 ≡ end) × (is_inside result.1 ≡ false) }
 {
@@ -145,7 +150,7 @@ pub(crate) fn len_without(end: u8, text: &[u8]) -> usize
 pub(crate) fn is_open(rules: &Rules, number: u64, text: &[u8]) -> bool
     ensures { result ≡ is_open (quotes_in rules.now.span) number text.now }
 {
-    Within::first(number)
+    CsvState::first(number)
         .after(rules.quotes(), text)
         .is_inside()
 }

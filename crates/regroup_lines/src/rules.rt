@@ -1,15 +1,23 @@
 //! How the lines of an input are regrouped, and where the numbers of a line are.
-ghost use Rattle.std.specs.Prelude.{◌≡◌, ◌≤◌, length, true, None, IfSome};
+ghost use Rattle.std.specs.Prelude.{◌≡◌, ◌≤◌, ◌<◌, ◌+◌, ◌-◌, ◌^◌, length, true};
 ghost use Rattle.regroup_lines.specs.Csv.{is_bare, output_delimiter};
 ghost use Rattle.regroup_lines.specs.Lines.{mark_len, passes, quotes_in, quotes_of};
-ghost use Rattle.regroup_lines.specs.Places.{are_enough, field_count, is_at_most, is_chosen, least_of, next_of};
-ghost use Rattle.regroup_lines.specs.Places.{place_of, trimmed, wanted_of};
+ghost use Rattle.regroup_lines.specs.Places.{affix_len, are_enough, field_count, is_at, is_at_most, is_chosen};
+ghost use Rattle.regroup_lines.specs.Places.{is_chosen_field, is_counted, is_in, least_of, next_of, number_of};
+ghost use Rattle.regroup_lines.specs.Places.{place_of, space_len, stripped, trimmed, wanted_of, without_affixes};
+ghost use Rattle.regroup_lines.specs.Places.{without_bytes};
 
 use regroup_faults::{FieldCount, Reading};
 use std::ops::Range;
 
 /// The bytes of a byte order mark, the character U+FEFF.
 pub(crate) const MARK: [u8; 3] = [0xEF, 0xBB, 0xBF];
+
+/// The bytes of the character U+00A0.
+const NO_BREAK_SPACE: [u8; 2] = [0xC2, 0xA0];
+
+/// The bytes of the character U+202F.
+const NARROW_NO_BREAK_SPACE: [u8; 3] = [0xE2, 0x80, 0xAF];
 
 /// The byte around a field that has a delimiter, a newline or this byte.
 pub(crate) const QUOTE: u8 = b'"';
@@ -90,8 +98,12 @@ pub struct Fields<'a> {
     pub quotes: bool,
     /// How all fields are written, or `None` if the bytes that are not those of a number are passed on as they are.
     pub output: Option<Output>,
-    /// Whether the fields with a number alone are written, and those of a header.
+    /// Whether the fields with a number alone are written, and those of a header, as often as they are in the list and
+    /// in its order: those of each range in turn.
     pub only: bool,
+    /// Whether fields without a byte are not counted and have no number, as where runs of the delimiter separate
+    /// fields.
+    pub blanks: bool,
 }
 
 /// Where the numbers of a line are. ASCII whitespace around a number, as a carriage return, is not part of it, nor is a
@@ -111,6 +123,10 @@ pub enum Span<'a> {
 pub struct Rules<'a> {
     /// Where the numbers of a line are, and how its fields are written.
     pub span: Span<'a>,
+    /// The texts that may be before or after a number, as a currency, if there are any, but for [`Span::Line`]. One at
+    /// its start and one at its end, the first here that is there, are not part of it, nor are a no-break space, U+00A0
+    /// or U+202F, and ASCII whitespace inside them.
+    pub affixes: Option<&'a [&'a str]>,
     /// How the numbers are read.
     pub reading: Reading,
     /// How many lines at the start are headers, and each record that begins in one of them: no number of it is read.
@@ -176,10 +192,17 @@ impl Rules<'_> {
 
 impl FieldRange {
     /// Returns whether the number is at most that of the last field.
-    fn reaches(&self, number: u64) -> bool
+    pub(crate) fn reaches(&self, number: u64) -> bool
         ensures { result ≡ is_at_most number self.now.last }
     {
         self.last.is_none_or(|last| number <= last)
+    }
+
+    /// Returns whether the field of this number is one of them.
+    pub(crate) fn contains(&self, number: u64) -> bool
+        ensures { result ≡ is_in self.now number }
+    {
+        self.first <= number && self.reaches(number)
     }
 
     /// Returns the number of the first field or this one, whichever is less, if the fields reach the one that is asked
@@ -204,12 +227,12 @@ impl FieldRange {
 
 impl Fields<'_> {
     /// Returns a number such that no field from this one on and before that one is written in another way than it was
-    /// read, or `None` if none from this one on is.
+    /// read, or `None` if none from this one on is. It is 0 if all fields are written anew.
     pub(crate) fn next(&self, from: u64) -> Option<u64>
         ensures { result ≡ next_of self.now.output self.now.list.now from }
     {
         if self.output.is_some() {
-            return Some(from);
+            return Some(0);
         }
         let ranges = self.list.iter();
         ranges.fold(None, |next, range| range.least(from, next))
@@ -233,12 +256,41 @@ impl Fields<'_> {
         }
     }
 
-    /// Returns whether the field of this number has a number.
-    pub(crate) fn contain(&self, number: u64) -> bool
+    /// Returns whether a field is counted.
+    #[inline]
+    pub(crate) fn count(&self, field: &[u8]) -> bool
+        ensures { result ≡ is_counted self.now.blanks field.now }
+    {
+        !self.blanks || !field.is_empty()
+    }
+
+    /// Returns the number of a field that so many counted ones are before, or theirs if it is not counted.
+    #[inline]
+    pub(crate) fn number_after(&self, before: u64, field: &[u8]) -> u64
+        requires { before + 1 < 2 ^ 64 }
+        ensures number { result ≡ number_of self.now.blanks before field.now }
+        ensures most { result ≤ before + 1 }
+    {
+        if self.count(field) {
+            before + 1
+        } else {
+            before
+        }
+    }
+
+    /// Returns whether a field has a number, by its own number.
+    pub(crate) fn contain(&self, number: u64, field: &[u8]) -> bool
+        ensures { result ≡ is_chosen_field self.now.list.now self.now.blanks number field.now }
+    {
+        self.reach(number) && self.count(field)
+    }
+
+    /// Returns whether a range has this number.
+    fn reach(&self, number: u64) -> bool
         ensures { result ≡ is_chosen self.now.list.now number }
     {
         let mut ranges = self.list.iter();
-        ranges.any(|range| range.first <= number && range.reaches(number))
+        ranges.any(|range| range.contains(number))
     }
 
     /// Returns whether a line of so many fields has all that are wanted of it.
@@ -275,4 +327,94 @@ pub(crate) fn trim(text: &[u8], place: Range<usize>) -> Range<usize>
     let number = rest.trim_ascii_end();
     let start = end - rest.len();
     start..start + number.len()
+}
+
+/// Returns what is left of a place without one of these texts, if there are any, at its start, one at its end, and the
+/// spaces inside them.
+#[inline(always)]
+pub(crate) fn without_affixes(
+    affixes: Option<&[&str]>,
+    text: &[u8],
+    place: Range<usize>,
+) -> Range<usize>
+    requires ordered { place.start ≤ place.end }
+    requires within { place.end ≤ length text.now }
+    ensures place { place_of result ≡ without_affixes affixes.entry text.now (place_of place) }
+    ensures inside { place.start ≤ result.start }
+    ensures ordered { result.start ≤ result.end }
+    ensures within { result.end ≤ length text.now }
+{
+    match affixes {
+        Some(affixes) => strip(affixes, text, place),
+        None => place,
+    }
+}
+
+/// Does the same with texts. It is a call, so that numbers without any are found without its code.
+#[inline(never)]
+fn strip(affixes: &[&str], text: &[u8], place: Range<usize>) -> Range<usize>
+    requires ordered { place.start ≤ place.end }
+    requires within { place.end ≤ length text.now }
+    ensures place { place_of result ≡ stripped affixes.now text.now (place_of place) }
+    ensures inside { place.start ≤ result.start }
+    ensures ordered { result.start ≤ result.end }
+    ensures within { result.end ≤ length text.now }
+{
+    let (start, end) = (place.start, place.end);
+    let start = start + affix_len(false, affixes, &text[start..end]);
+    let end = end - affix_len(true, affixes, &text[start..end]);
+    trim(text, start..end)
+}
+
+/// Returns how many bytes the first of these texts has that is at the start or at the end of a text, and the no-break
+/// space inside it, or 0 if none is.
+fn affix_len(is_end: bool, affixes: &[&str], text: &[u8]) -> usize
+    ensures value { result ≡ affix_len is_end affixes.now text.now }
+    ensures within { result ≤ length text.now }
+{
+    for affix in affixes {
+        if is_at(is_end, affix.as_bytes(), text) {
+            return affix.len() + space_len(is_end, without_bytes(is_end, affix.len(), text));
+        }
+    }
+    0
+}
+
+/// Returns a text without so many bytes at its start or at its end.
+fn without_bytes(is_end: bool, len: usize, text: &[u8]) -> &[u8]
+    requires { len ≤ length text.now }
+    ensures value { result.now ≡ without_bytes is_end len text.now }
+    ensures shorter { length result.now ≡ length text.now - len }
+{
+    if is_end {
+        &text[..text.len() - len]
+    } else {
+        &text[len..]
+    }
+}
+
+/// Returns how many bytes the no-break space has that is at the start or at the end of a text, or 0 if none is.
+fn space_len(is_end: bool, text: &[u8]) -> usize
+    ensures value { result ≡ space_len is_end text.now }
+    ensures within { result ≤ length text.now }
+{
+    if is_at(is_end, &NO_BREAK_SPACE, text) {
+        NO_BREAK_SPACE.len()
+    } else if is_at(is_end, &NARROW_NO_BREAK_SPACE, text) {
+        NARROW_NO_BREAK_SPACE.len()
+    } else {
+        0
+    }
+}
+
+/// Returns whether bytes are at the start or at the end of a text.
+fn is_at(is_end: bool, affix: &[u8], text: &[u8]) -> bool
+    ensures value { result ≡ is_at is_end affix.now text.now }
+    ensures within { result ≡ true → length affix.now ≤ length text.now }
+{
+    if is_end {
+        text.ends_with(affix)
+    } else {
+        text.starts_with(affix)
+    }
 }

@@ -24,11 +24,11 @@ const MAX_SHOWN_LINE_LEN: usize = MAX_DIGIT_TEXT_LEN + 1;
 ///
 /// Which error it was is not kept, since no fault names it, and each call would copy the space of an error of std.
 #[derive(Clone, Copy)]
-pub(crate) struct Unsent;
+pub(crate) struct WriteFailed;
 
 /// Sends the parts of a text in turn.
 #[inline(always)]
-fn send_all<W: Write>(parts: &[&[u8]], w: &mut W) -> Result<(), Unsent>
+fn send_all<W: Write>(parts: &[&[u8]], w: &mut W) -> Result<(), WriteFailed>
     ensures { Sends result (W.contents w.old) (W.contents w.new) (flat_map (λ part. part.now) parts.now) }
 {
     for part in parts {
@@ -46,7 +46,7 @@ pub(crate) fn send_number<W: Write, G: Format>(
     after: &[u8],
     line_end: u8,
     w: &mut W,
-) -> Result<(), Unsent>
+) -> Result<(), WriteFailed>
     ensures { Sends result (W.contents w.old) (W.contents w.new)
         (ended_by line_end (before.now ++ (number_text to.now number.now ++ after.now))) }
 {
@@ -68,7 +68,7 @@ fn send_in_digits<W: Write, G: Format>(
     after: &[u8],
     line_end: u8,
     w: &mut W,
-) -> Result<(), Unsent>
+) -> Result<(), WriteFailed>
     ensures { Sends result (W.contents w.old) (W.contents w.new)
         (ended_by line_end (before.now ++ (number_text to.now number.now ++ after.now))) }
 {
@@ -90,7 +90,7 @@ fn send_between<W: Write>(
     after: &[u8],
     line_end: u8,
     w: &mut W,
-) -> Result<(), Unsent>
+) -> Result<(), WriteFailed>
     requires { length number.now < MAX_SENT_LINE_LEN }
     ensures { Sends result (W.contents w.old) (W.contents w.new)
         (ended_by line_end (before.now ++ (number.now ++ after.now))) }
@@ -108,7 +108,7 @@ fn send_around<'a, W: Write>(
     after: &'a [u8],
     line_end: u8,
     w: &mut W,
-) -> Result<(), Unsent>
+) -> Result<(), WriteFailed>
     ensures { Sends result (W.contents w.old) (W.contents w.new)
         (ended_by line_end (before.now ++ (number.now ++ after.now))) }
 {
@@ -117,7 +117,7 @@ fn send_around<'a, W: Write>(
 
 /// Sends a number and the byte that ends its line, by one write if that writes both: so no other process writes between
 /// them.
-fn send_line<W: Write>(number: &str, line_end: u8, w: &mut W) -> Result<(), Unsent>
+fn send_line<W: Write>(number: &str, line_end: u8, w: &mut W) -> Result<(), WriteFailed>
     requires { length number.now < MAX_SENT_LINE_LEN }
     ensures { Sends result (W.contents w.old) (W.contents w.new) (ended_by line_end number.now) }
 {
@@ -129,11 +129,11 @@ fn send_line<W: Write>(number: &str, line_end: u8, w: &mut W) -> Result<(), Unse
 
 /// Sends bytes.
 #[inline]
-pub(crate) fn send_whole<W: Write>(bytes: &[u8], w: &mut W) -> Result<(), Unsent>
+pub(crate) fn send_whole<W: Write>(bytes: &[u8], w: &mut W) -> Result<(), WriteFailed>
     ensures { Sends result (W.contents w.old) (W.contents w.new) bytes.now }
 {
     match write_whole(bytes, w) {
         Ok(_) => Ok(()),
-        Err(_) => Err(Unsent),
+        Err(_) => Err(WriteFailed),
     }
 }

@@ -105,6 +105,14 @@ fn with_options<'a>(alloc: Global, command: Command<'a>) -> Result<Command<'a>, 
                     "The ASCII character between two fields, or \\t for a tab [default: a tab, or a comma with --csv]",
                 ),
         )?
+        .arg(
+            flag(alloc, "blanks", "Read fields that runs of spaces separate")?
+                .requires_arg("field")?
+                .conflicts_with("delimiter")?
+                .conflicts_with("csv")?
+                .conflicts_with("output-delimiter")?
+                .conflicts_with("quote")?,
+        )?
         .arg(flag(
             alloc,
             "csv",
@@ -147,7 +155,7 @@ fn with_output_options<'a>(alloc: Global, command: Command<'a>) -> Result<Comman
         .arg(flag(
             alloc,
             "only",
-            "Write the chosen fields alone, in their order in the line",
+            "Write the chosen fields alone, in the order of LIST",
         )?
         .requires_arg("field")?)?
         .arg(
@@ -164,8 +172,7 @@ fn with_output_options<'a>(alloc: Global, command: Command<'a>) -> Result<Comman
 
 /// Returns the command line with its options about lines that are no numbers.
 fn with_fault_options<'a>(alloc: Global, command: Command<'a>) -> Result<Command<'a>, AllocError> {
-    let command = with_decimals(alloc, command)?;
-    command
+    let command = with_decimals(alloc, command)?
         .arg(
             Arg::new(alloc, "invalid")
                 .long("invalid")
@@ -185,7 +192,16 @@ fn with_fault_options<'a>(alloc: Global, command: Command<'a>) -> Result<Command
             alloc,
             "empty",
             "Pass on a line where nothing is in place of the number",
-        )?)?
+        )?)?;
+    with_reading_options(alloc, command)
+}
+
+/// Returns the command line with its options about how numbers are read.
+fn with_reading_options<'a>(
+    alloc: Global,
+    command: Command<'a>,
+) -> Result<Command<'a>, AllocError> {
+    command
         .arg(flag(
             alloc,
             "lenient",
@@ -196,7 +212,16 @@ fn with_fault_options<'a>(alloc: Global, command: Command<'a>) -> Result<Command
             "typed",
             "Read numbers as people type them: a keyboard's space, apostrophe and hyphen stand for those of FROM",
         )?
-        .conflicts_with("lenient")?)
+        .conflicts_with("lenient")?)?
+        .arg(
+            Arg::new(alloc, "affix")
+                .long("affix")
+                .value_name("LIST")
+                .conflicts_with("lenient")?
+                .help(
+                    "Pass on one of these texts before a number, and one after it, as a currency",
+                ),
+        )
 }
 
 /// Returns the command line with its options about how many decimals numbers have.

@@ -16,7 +16,9 @@ mod words;
 use crate::command_line::matches;
 use crate::files::Files;
 use crate::misuse::cause_of;
-use crate::options::{capacity_of, files_of, list_of, options_of, words_of};
+use crate::options::{
+    affixes_of, capacity_of, files_of, has_field_after_rest, list_of, options_of, words_of,
+};
 use crate::output::Output;
 use crate::words::Word;
 use clap::ArgMatches;
@@ -72,13 +74,20 @@ fn try_main(rt: &HostRuntime) -> io::Result<u8> {
 ///
 /// # Errors
 ///
-/// Returns an error if there is no memory for the buffers.
+/// Returns an error if there is no memory for the affixes and the buffers.
 fn regroup_fields(
     rt: &HostRuntime,
     matches: &ArgMatches<'_>,
     list: &FieldList<'_>,
 ) -> io::Result<u8> {
-    match options_of(matches, list).rules() {
+    if matches.get_flag("sum") && has_field_after_rest(list) {
+        return Ok(refuse(
+            rt,
+            "option '--sum' takes a part N- at the end of LIST alone",
+        ));
+    }
+    let affixes = affixes_of(rt.alloc(), matches)?;
+    match options_of(matches, list, affixes.as_deref()).rules() {
         Ok(rules) => regroup_files(rt, matches, &rules, &list.names),
         Err(fault) => Ok(refuse(rt, fault.cause())),
     }
@@ -103,8 +112,9 @@ fn regroup_files(
 ) -> io::Result<u8> {
     let words = words_of(matches);
     let (from, to) = (Word::read(rt, words[0]), Word::read(rt, words[1]));
-    let (parsing, span) = (rules.reading.parsing, &rules.span);
-    let formats = match formats_for(rt.alloc(), parsing, span, from.source(), to.source()) {
+    let (parsing, span, affixes) = (rules.reading.parsing, &rules.span, rules.affixes);
+    let (source, target) = (from.source(), to.source());
+    let formats = match formats_for(rt.alloc(), parsing, span, affixes, source, target) {
         Ok(formats) => formats,
         Err(misuse) => return Ok(misuse.send(&mut rt.stderr())),
     };

@@ -48,6 +48,8 @@ fn cause_in(alloc: Global, kind: ErrorKind, text: &str) -> Result<String, AllocE
                 "option '--quote' requires '--csv'"
             } else if missing.contains("--decimals") {
                 "option '--round' requires '--decimals'"
+            } else if text.contains("--blanks") {
+                "option '--blanks' requires '--field'"
             } else if text.contains("--csv") {
                 "option '--csv' requires '--field'"
             } else if text.contains("--output-delimiter") {
@@ -61,6 +63,12 @@ fn cause_in(alloc: Global, kind: ErrorKind, text: &str) -> Result<String, AllocE
             };
             String::from_str(alloc, cause)
         }
+        // The first of several arguments stands on the next line.
+        ErrorKind::ArgumentConflict if text.contains(" with:\n") => format!(in alloc;
+            "{} with '{}'",
+            between(text, "error: ", " with:\n"),
+            between(text, " with:\n  ", "\n")
+        ),
         _ => String::from_str(alloc, between(text, "error: ", "\n")),
     }
 }

@@ -24,10 +24,35 @@ pub(crate) fn list_of<'a>(
     }
 }
 
-/// Returns what the options say of lines, where these fields are chosen.
+/// Returns whether a list has a field after all those from one on. How many these are differs from line to line, so
+/// that no sum is that of the field after them.
+pub(crate) fn has_field_after_rest(list: &FieldList<'_>) -> bool {
+    match list.ranges.split_last() {
+        Some((_, before)) => before.iter().any(|range| range.last.is_none()),
+        None => false,
+    }
+}
+
+/// Returns the texts that may be before or after a number, if `--affix` is given.
+///
+/// # Errors
+///
+/// Returns an error if there is no memory for them.
+pub(crate) fn affixes_of<'a>(
+    alloc: Global,
+    matches: &ArgMatches<'a>,
+) -> Result<Option<Vec<&'a str>>, AllocError> {
+    match matches.get_str("affix") {
+        Some(list) => Ok(Some(list.split(',').collect(alloc)?)),
+        None => Ok(None),
+    }
+}
+
+/// Returns what the options say of lines, where these fields are chosen and these texts may be around a number.
 pub(crate) fn options_of<'a, 'w>(
     matches: &ArgMatches<'w>,
     list: &'a FieldList<'_>,
+    affixes: Option<&'a [&'a str]>,
 ) -> Options<'a, 'w> {
     let header_lines = if matches.get_flag("header") {
         1
@@ -42,10 +67,12 @@ pub(crate) fn options_of<'a, 'w>(
         list: &list.ranges,
         has_names: !list.names.is_empty(),
         delimiter: matches.get_str("delimiter"),
+        blanks: matches.get_flag("blanks"),
         csv: matches.get_flag("csv"),
         output_delimiter: matches.get_str("output-delimiter"),
         quoting,
         only: matches.get_flag("only"),
+        affixes,
         reading: reading_of(matches),
         header_lines,
         passes_empty: matches.get_flag("empty"),

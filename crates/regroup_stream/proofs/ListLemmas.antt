@@ -7,7 +7,7 @@ use Rattle.std.specs.Prelude.{MatchOption, nat_lt, ◌&&◌}
 use Rattle.std.specs.Result.{OkIff}
 use Rattle.std.specs.List.{after_first, before_first, filter, list_all, position_or_len}
 use Rattle.std.specs.Str.{all_ascii_digits}
-use Rattle.regroup_stream.specs.Lists.{counted, field_number, is_dash, is_name, range_between, ranges_in, with_range}
+use Rattle.regroup_stream.specs.Lists.{NAMED, counted, field_number, is_dash, is_name, part_range, range_between, ranges_in, with_range}
 use Rattle.std.proofs.lemmas.List.{drop_all, drop_more}
 use Rattle.std.proofs.lemmas.Bool.{false_from_ne_true}
 use Rattle.std.specs.Char.{is_ascii_digit}
@@ -110,18 +110,32 @@ module _ (parts : List (List ℕ)) (n : ℕ) (items : List FieldRange) (names : 
     cut : drop n parts ≡ part ∷ drop (n + 1) parts
     cut = drop_more parts n part turn.0 ∙ ap (λ p. p ∷ drop (n + 1) parts) (sym turn.1)
 
+    next : ranges_in (drop n parts) ≡ with_range (part_range part) (ranges_in (drop (n + 1) parts))
+    next = ap ranges_in cut
+
+    pushed : (range : FieldRange) (later : Option (List FieldRange)) →
+        option_map (λ later. items ++ later) (with_range (Some range) later) ≡ option_map (λ later. (items ++ range ∷ []) ++ later) later
+    pushed range None = refl
+    pushed range (Some later) = ap Some (sym (append_assoc items (range ∷ []) later))
+
+    pub ranges-next : (range : FieldRange) → part_range part ≡ Some range →
+        ranges_in parts ≡ option_map (λ later. (items ++ range ∷ []) ++ later) (ranges_in (drop (n + 1) parts))
+    ranges-next range some =
+        so_far ∙ ap (option_map (λ later. items ++ later)) (next ∙ ap (λ r. with_range r (ranges_in (drop (n + 1) parts))) some)
+        ∙ pushed range (ranges_in (drop (n + 1) parts))
+
     -- it is a name
     module _ (is : is_name part ≡ true) where
-      pub ranges-passed : ranges_in parts ≡ option_map (λ later. items ++ later) (ranges_in (drop (n + 1) parts))
-      ranges-passed = so_far ∙ ap (option_map (λ later. items ++ later)) (ap ranges_in cut ∙ rw is refl)
+      pub ranges-named : ranges_in parts ≡ option_map (λ later. (items ++ NAMED ∷ []) ++ later) (ranges_in (drop (n + 1) parts))
+      ranges-named = ranges-next NAMED (rw is refl)
 
       pub names-next : filter is_name parts ≡ (names ++ part ∷ []) ++ filter is_name (drop (n + 1) parts)
       names-next = named ∙ ap (λ l. names ++ l) (ap (filter is_name) cut ∙ rw is refl) ∙ sym (append_assoc names (part ∷ []) _)
 
     -- it is none
     module _ (is : is_name part ≡ false) where
-      next : ranges_in (drop n parts) ≡ with_range (range_in part) (ranges_in (drop (n + 1) parts))
-      next = ap ranges_in cut ∙ rw is refl
+      as_range : part_range part ≡ range_in part
+      as_range = rw is refl
 
       pub names-passed : filter is_name parts ≡ names ++ filter is_name (drop (n + 1) parts)
       names-passed = named ∙ ap (λ l. names ++ l) (ap (filter is_name) cut ∙ rw is refl)
@@ -129,18 +143,11 @@ module _ (parts : List (List ℕ)) (n : ℕ) (items : List FieldRange) (names : 
       pub list-refused : range_in part ≡ None → option_map (with_names (filter is_name parts)) (ranges_in parts) ≡ None
       list-refused none =
           ap (option_map (with_names (filter is_name parts))) (so_far
-          ∙ ap (option_map (λ later. items ++ later)) (next ∙ ap (λ r. with_range r (ranges_in (drop (n + 1) parts))) none))
+          ∙ ap (option_map (λ later. items ++ later)) (next ∙ ap (λ r. with_range r (ranges_in (drop (n + 1) parts))) (as_range ∙ none)))
 
-      pushed : (range : FieldRange) (later : Option (List FieldRange)) →
-          option_map (λ later. items ++ later) (with_range (Some range) later) ≡ option_map (λ later. (items ++ range ∷ []) ++ later) later
-      pushed range None = refl
-      pushed range (Some later) = ap Some (sym (append_assoc items (range ∷ []) later))
-
-      pub ranges-next : (range : FieldRange) → range_in part ≡ Some range →
+      pub ranges-other : (range : FieldRange) → range_in part ≡ Some range →
           ranges_in parts ≡ option_map (λ later. (items ++ range ∷ []) ++ later) (ranges_in (drop (n + 1) parts))
-      ranges-next range some =
-          so_far ∙ ap (option_map (λ later. items ++ later)) (next ∙ ap (λ r. with_range r (ranges_in (drop (n + 1) parts))) some)
-          ∙ pushed range (ranges_in (drop (n + 1) parts))
+      ranges-other range some = ranges-next range (as_range ∙ some)
 
   -- no part is left
   pub list-all : n ≡ length parts → option_map (with_names (filter is_name parts)) (ranges_in parts) ≡ Some (with_names names items)

@@ -4,6 +4,7 @@ use Rattle.std.specs.Char.{is_ascii_digit}
 use Rattle.std.specs.List.{after_first, before_first, filter, list_all, list_any, position_or_len, slice_split}
 use Rattle.std.specs.Option.{option_map}
 use Rattle.std.specs.Str.Parse.{digits_value}
+use Rattle.regroup_lines.specs.Places.{one_field}
 use Rattle.regroup_lines.specs.declared.rules.FieldRange.{FieldRange}
 
 -- the number, if it is one of a field: they are counted from 1, and a `u64` holds them
@@ -47,10 +48,18 @@ with_range None ranges = None
 with_range (Some range) None = None
 with_range (Some range) (Some ranges) = Some (range ∷ ranges)
 
--- the ranges that parts name which are no names, if each of these names one
+-- the range in place of a name: no field is in it, since they are counted from 1
+abbrev pub NAMED : FieldRange
+NAMED = one_field 0
+
+-- the range of a part, which may be a name
+abbrev pub part_range : List ℕ → Option FieldRange
+part_range part = if is_name part then Some NAMED else range_in part
+
+-- those of parts, if each has one
 abbrev pub ranges_in : List (List ℕ) → Option (List FieldRange)
 ranges_in [] = Some []
-ranges_in (part ∷ parts) = if is_name part then ranges_in parts else with_range (range_in part) (ranges_in parts)
+ranges_in (part ∷ parts) = with_range (part_range part) (ranges_in parts)
 
 -- the parts of a list, which commas are between
 abbrev pub parts_of : List ℕ → List (List ℕ)

@@ -1,5 +1,7 @@
 -- Fields that are chosen by names of the header.
-use Rattle.std.specs.Prelude.{◌≡◌, ℕ, List, [], ◌∷◌, ◌++◌, codes, Option, None, Some, Result, Ok, Err}
+use Rattle.std.specs.Prelude.{◌≡◌, ◌==◌, ℕ, Bool, List, [], ◌∷◌, ◌++◌, slice_set, codes, Option, None}
+use Rattle.std.specs.Prelude.{Some, Result, Ok, Err}
+use Rattle.std.specs.List.{position}
 use Rattle.std.specs.Borrow.{Bor}
 use Rattle.std.specs.Io.KnownBytes.{Keeps}
 use Rattle.std.specs.declared.io.ErrorKind.{ErrorKind}
@@ -32,11 +34,24 @@ abbrev pub with_number : {A : Type 0} → Result ℕ Misnamed → (ℕ → Resul
 with_number (Ok number) next = next number
 with_number (Err misnamed) next = Err misnamed
 
--- ranges, and after them the fields of a header that have these names, or the first name that is not that of one field
+-- whether a range is in place of a name
+abbrev pub is_named_later : FieldRange → Bool
+is_named_later range = range.first == 0
+
+-- ranges with this one at a place, or after them if there is none
+abbrev pub with_range_at : Option ℕ → FieldRange → List FieldRange → List FieldRange
+with_range_at None range list = list ++ range ∷ []
+with_range_at (Some place) range list = slice_set list place range
+
+-- ranges with this one in place of the first that is in place of a name
+abbrev pub with_field : FieldRange → List FieldRange → List FieldRange
+with_field field list = with_range_at (position is_named_later list) field list
+
+-- ranges with the fields of a header that have these names in turn, or the first name that is not that of one field
 abbrev pub ranges_named : Fields → (header : List ℕ) → List FieldRange → (names : List (List ℕ)) → Result (List FieldRange) Misnamed
 ranges_named fields header list [] = Ok list
 ranges_named fields header list (name ∷ names) =
-    with_number (number_named fields header name) (λ number. ranges_named fields header (list ++ one_field number ∷ []) names)
+    with_number (number_named fields header name) (λ number. ranges_named fields header (with_field (one_field number) list) names)
 
 -- the message that shows a name, with what is wrong with it, and the header of an input
 abbrev pub name_message : (input name cause header : List ℕ) → List ℕ

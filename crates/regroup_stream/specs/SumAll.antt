@@ -57,7 +57,9 @@ sum_rules rules list = record {
     quotes = false;
     output = Some (record { delimiter = sums_delimiter rules.span; quoting = Necessary });
     only = false;
+    blanks = false;
   });
+  affixes = None;
   reading = record { parsing = Strict; scale = None };
   header_lines = 0;
   passes_empty = true;

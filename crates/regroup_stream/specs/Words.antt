@@ -1,6 +1,7 @@
 -- The formats that words and files name, and what is wrong with those that name none.
 use Rattle.std.specs.Prelude.{◌≡◌, ℕ, ◌==◌, Bool, true, false, not, ◌&&◌, ◌||◌, if◌then◌else◌, nat_eq, List, []}
 use Rattle.std.specs.Prelude.{◌∷◌, ◌++◌, length, drop, codes, Option, None, Some, is_some, option_and_then, Result, Ok, Err, ⊤, ◌⊎◌}
+use Rattle.std.specs.Borrow.{Bor}
 use Rattle.std.specs.Char.{is_ascii_whitespace}
 use Rattle.std.specs.List.{list_any, starts_with}
 use Rattle.std.specs.Option.{ok_or, option_map, unwrap_or}
@@ -33,7 +34,7 @@ use Rattle.regroup_stream.specs.Files.{HoldsFormat, Unfit, unfit_message, unfit_
 use Rattle.regroup_stream.specs.Files.Unfit.{Unread}
 use Rattle.regroup_stream.specs.declared.words.Ambiguity.{Ambiguity}
 use Rattle.regroup_stream.specs.declared.words.Ambiguity.TheVariants.{NoMinusSign, NoDecimalMark, SameSymbol, NumeralInSymbol}
-use Rattle.regroup_stream.specs.declared.words.Ambiguity.TheVariants.{TypedAlike, BlankMinusSign, PrintsDelimiter}
+use Rattle.regroup_stream.specs.declared.words.Ambiguity.TheVariants.{TypedAlike, BlankMinusSign, AffixMinusSign, PrintsDelimiter}
 use Rattle.regroup_stream.specs.declared.words.Misuse.{Misuse}
 use Rattle.regroup_stream.specs.declared.words.Misuse.TheVariants as misuse
 use Rattle.regroup_stream.specs.declared.words.Source.{Source}
@@ -174,6 +175,7 @@ cause_of SameSymbol = codes ": the decimal mark is the separator"
 cause_of NumeralInSymbol = codes ": a symbol has a digit"
 cause_of TypedAlike = codes ": ambiguous as people type it"
 cause_of BlankMinusSign = codes ": the minus sign begins with whitespace"
+cause_of AffixMinusSign = codes ": the minus sign begins with an affix"
 cause_of PrintsDelimiter = codes ": numbers have the delimiter: see --csv"
 
 -- the format that the file of this name holds, with the digits 0 to 9, or why it holds none
@@ -215,6 +217,15 @@ abbrev pub begins_blank : List ℕ → Bool
 begins_blank [] = false
 begins_blank (b ∷ text) = is_ascii_whitespace b
 
+-- whether a text begins with a no-break space, U+00A0 or U+202F
+abbrev pub begins_no_break : List ℕ → Bool
+begins_no_break text = starts_with nat_eq text (0xC2 ∷ 0xA0 ∷ []) || starts_with nat_eq text (0xE2 ∷ 0x80 ∷ 0xAF ∷ [])
+
+-- whether a text begins with one of those that may be before a number, or with a no-break space, if there are any
+abbrev pub begins_with_affix : List ℕ → Option (Bor (List (Bor (List ℕ)))) → Bool
+begins_with_affix text None = false
+begins_with_affix text (Some affixes) = list_any (λ affix. starts_with nat_eq text affix.now) affixes.now || begins_no_break text
+
 -- the delimiter of fields around which no quotes are written
 abbrev pub bare_delimiter : Span → Option ℕ
 bare_delimiter span.Line = None
@@ -237,9 +248,10 @@ prints_delimiter to None = false
 prints_delimiter to (Some delimiter) = prints_byte to delimiter
 
 -- why numbers are not told by two formats where the rules say, if they are not, and by which of these words or files
-abbrev pub misfit : Span → (from to : Named) → NotationData × NotationData → Option Wrong
-misfit span from to formats =
+abbrev pub misfit : Span → Option (Bor (List (Bor (List ℕ)))) → (from to : Named) → NotationData × NotationData → Option Wrong
+misfit span affixes from to formats =
     if begins_blank formats.0.format.minus_sign then Some (Ambiguous (text_of_named from) BlankMinusSign) else
+    if begins_with_affix formats.0.format.minus_sign affixes then Some (Ambiguous (text_of_named from) AffixMinusSign) else
     if begins_blank formats.1.format.minus_sign then Some (Ambiguous (text_of_named to) BlankMinusSign) else
     if prints_delimiter formats.1 (bare_delimiter span) then Some (Ambiguous (text_of_named to) PrintsDelimiter) else None
 
@@ -249,16 +261,17 @@ ok_unless formats None = Ok formats
 ok_unless formats (Some wrong) = Err wrong
 
 -- the formats of two of them by which numbers are told, or what is wrong
-abbrev pub fitting : Span → (from to : Named) → Result (NotationData × NotationData) Wrong → Result (NotationData × NotationData) Wrong
-fitting span from to (Err wrong) = Err wrong
-fitting span from to (Ok formats) = ok_unless formats (misfit span from to formats)
+abbrev pub fitting : Span → Option (Bor (List (Bor (List ℕ)))) → (from to : Named) → Result (NotationData × NotationData) Wrong
+    → Result (NotationData × NotationData) Wrong
+fitting span affixes from to (Err wrong) = Err wrong
+fitting span affixes from to (Ok formats) = ok_unless formats (misfit span affixes from to formats)
 
 -- what is named is told, or else what is wrong
-pub record NamesFormatsFor (parsing : Parsing) (span : Span) (from to : Named)
+pub record NamesFormatsFor (parsing : Parsing) (span : Span) (affixes : Option (Bor (List (Bor (List ℕ))))) (from to : Named)
     (result : Result (NotationData × NotationData) Wrong) : Type 0 where
   pub named : Result (NotationData × NotationData) Wrong
   pub names : NamesFormats parsing from to named
-  pub told : result ≡ fitting span from to named
+  pub told : result ≡ fitting span affixes from to named
 
 -- the message of arguments that are refused for this cause
 abbrev pub arguments_message : (cause : List ℕ) → List ℕ

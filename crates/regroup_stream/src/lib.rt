@@ -80,6 +80,7 @@ use std::io::{BufWriter, ErrorKind, Read, Write};
 /// ```rust
 /// let rules = Rules {
 ///     span: Span::Line,
+///     affixes: None,
 ///     reading: Reading { parsing: Parsing::Strict, scale: None },
 ///     header_lines: 0,
 ///     passes_empty: false,

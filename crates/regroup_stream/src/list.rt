@@ -9,10 +9,16 @@ ghost use Rattle.regroup_stream.specs.Lists.{range_in};
 use regroup_lines::FieldRange;
 use std::alloc::{AllocError, Global};
 
+/// The range in place of a name, until its field is known: no field is in it, since they are counted from 1.
+const NAMED: FieldRange = FieldRange {
+    first: 0,
+    last: Some(0),
+};
+
 /// The fields that a list chooses.
 #[derive(Drop)]
 pub struct FieldList<'a> {
-    /// The ranges that it has.
+    /// The ranges that it has, with that of the field 0 in place of each name.
     pub ranges: Vec<FieldRange>,
     /// The names of the header that it has.
     pub names: Vec<&'a str>,
@@ -26,7 +32,8 @@ pub struct FieldList<'a> {
 ///
 /// ```rust
 /// let list = field_list(alloc, "2-,net")?.unwrap();
-/// list.ranges                              // [FieldRange { first: 2, last: None }]
+/// list.ranges[0]                           // FieldRange { first: 2, last: None }
+/// list.ranges[1]                           // FieldRange { first: 0, last: Some(0) }
 /// list.names                               // ["net"]
 /// field_list(alloc, "5-3")?.is_none()      // true
 /// ```
@@ -42,6 +49,7 @@ pub fn field_list<'a>(alloc: Global, text: &'a str) -> Result<Option<FieldList<'
     for part in text.split(',') {
         if is_name(part) {
             names.push(part)?;
+            ranges.push(NAMED)?;
         } else {
             let Some(range) = range_in(part) else {
                 return Ok(None);

@@ -1,11 +1,13 @@
 //! Fields that are chosen by names of the header.
-ghost use Rattle.std.specs.Prelude.{◌≡◌, ◌≤◌, ◌+◌, [], IfOk, length, map};
+ghost use Rattle.std.specs.Prelude.{◌≡◌, ◌≤◌, ◌+◌, [], IfOk, OnOk, length, map};
 ghost use Rattle.std.specs.Io.Buffered.{writer_buffer, writer_contents};
 ghost use Rattle.std.specs.Option.{option_map};
 ghost use Rattle.std.specs.Result.{result_map_both};
 ghost use Rattle.regroup_lines.specs.Header.{misnamed_of};
+ghost use Rattle.regroup_lines.specs.Places.{one_field};
 ghost use Rattle.regroup_lines.specs.Sending.{by_writer};
 ghost use Rattle.regroup_stream.specs.Names.{RunsNamed, fields_by_name, misnamed_message, name_message, ranges_named};
+ghost use Rattle.regroup_stream.specs.Names.{with_field};
 
 use crate::ending::{Ending, FAILED, MISUSED, send};
 use crate::watched::Watched;
@@ -19,7 +21,8 @@ use std::io::{BufWriter, Read, Write};
 /// The most bytes of the message of a name that is not that of one field.
 const MAX_MESSAGE_LEN: usize = MAX_NAME_LEN + 2 * MAX_QUOTED_LEN + 64;
 
-/// Regroups the lines of `input`, as [`run`] does, where the fields of these names are chosen too, if there are names.
+/// Regroups the lines of `input`, as [`run`] does, where the fields of these names are chosen too, if there are names:
+/// each in place of a range of field 0, or after all ranges if there is none.
 /// Each has to be that of one field of the header, which is read first.
 ///
 /// The status is [`MISUSED`] where one is not: then `err` received a message that shows the name and the header, and no
@@ -89,7 +92,8 @@ fn fields_by_name<'a, 'l>(span: &'a Span<'l>, names: &[&str]) -> Option<&'a Fiel
     }
 }
 
-/// Returns the ranges that are chosen, and after them the fields of a header that have these names.
+/// Returns the ranges that are chosen, where the fields of a header that have these names are in place of those that
+/// stand for names, in turn, or after them if no more do.
 fn ranges_named<'a>(
     alloc: Global,
     fields: &Fields,
@@ -102,14 +106,26 @@ fn ranges_named<'a>(
     let mut list = fields.list.to_vec(alloc)?;
     for name in names {
         match field_named(fields, header, name) {
-            Ok(number) => list.push(FieldRange {
-                first: number,
-                last: Some(number),
-            })?,
+            Ok(number) => choose(&mut list, number)?,
             Err(fault) => return Ok(Err(fault)),
         }
     }
     Ok(Ok(list))
+}
+
+/// Puts the field of this number in place of the first range that stands for a name, or after them if none does.
+fn choose(list: &mut Vec<FieldRange>, number: u64) -> Result<(), AllocError>
+    ensures { OnOk result (list.new.items ≡ with_field (one_field number) list.old.items) }
+{
+    let field = FieldRange {
+        first: number,
+        last: Some(number),
+    };
+    match list.iter().position(|range| range.first == 0) {
+        Some(place) => list[place] = field,
+        None => list.push(field)?,
+    }
+    Ok(())
 }
 
 /// Returns the message of a name that is not that of one field of the header of an input.

@@ -1,7 +1,10 @@
 //! The rules that options of the command line ask for.
 ghost use Rattle.std.specs.Prelude.{◌≡◌};
-ghost use Rattle.regroup_stream.specs.Options.{cause_of_option, delimiter_named, delimiter_of, invalid_of, line_end_of};
-ghost use Rattle.regroup_stream.specs.Options.{output_delimiter_named, output_of, rules_of, span_of};
+ghost use Rattle.std.specs.List.{list_all, list_any};
+ghost use Rattle.std.specs.Str.{chars};
+ghost use Rattle.regroup_stream.specs.Options.{affixes_of, cause_of_option, delimiter_named, delimiter_of, invalid_of};
+ghost use Rattle.regroup_stream.specs.Options.{is_affix, is_mark, is_of_number, line_end_of, output_delimiter_named};
+ghost use Rattle.regroup_stream.specs.Options.{output_of, rules_of, span_of};
 
 use regroup_lines::{FieldRange, Fields, Invalid, Output, Quoting, Reading, Rules, Span};
 
@@ -16,10 +19,12 @@ const MAX_LINE_LEN: u32 = 1_048_576;
 ///     list: &list,
 ///     has_names: false,
 ///     delimiter: Some(";"),
+///     blanks: false,
 ///     csv: false,
 ///     output_delimiter: None,
 ///     quoting: Quoting::Keep,
 ///     only: false,
+///     affixes: Some(&["EUR", "%"]),
 ///     reading: Reading { parsing: Parsing::Strict, scale: None },
 ///     header_lines: 0,
 ///     passes_empty: false,
@@ -29,16 +34,19 @@ const MAX_LINE_LEN: u32 = 1_048_576;
 /// };
 /// options.rules().unwrap().invalid                                      // Fail
 /// Options { delimiter: Some("::"), ..options }.rules().err()            // Some(LongDelimiter)
+/// Options { affixes: Some(&["-"]), ..options }.rules().err()            // Some(BarredAffix)
 /// Options { invalid: Some(Invalid::Abort), ..options }.rules().err()    // Some(AbortingRejects)
 /// ```
 #[derive(Clone, Copy, Debug)]
 pub struct Options<'a, 'w> {
-    /// The fields that are chosen by their numbers.
+    /// The fields that are chosen by their numbers, with a range of field 0 in place of each name.
     pub list: &'a [FieldRange],
     /// Whether fields are chosen by names too. Where none is chosen, each line has one number.
     pub has_names: bool,
     /// The delimiter, if one is given.
     pub delimiter: Option<&'w str>,
+    /// Whether runs of the delimiter separate fields, which is a space if none is given.
+    pub blanks: bool,
     /// Whether fields may be in quotes.
     pub csv: bool,
     /// The delimiter that is written, if it is another one.
@@ -47,6 +55,8 @@ pub struct Options<'a, 'w> {
     pub quoting: Quoting,
     /// Whether the chosen fields alone are written.
     pub only: bool,
+    /// The texts that may be before or after a number, if there are any.
+    pub affixes: Option<&'a [&'a str]>,
     /// How the numbers are read.
     pub reading: Reading,
     /// How many lines at the start are passed on.
@@ -74,6 +84,8 @@ pub enum OptionFault {
     LongOutputDelimiter,
     /// The delimiter that is written is a quote, or ends lines, as a carriage return may.
     BarredOutputDelimiter,
+    /// A text that may be before or after a number is empty, or has a character that a number may have.
+    BarredAffix,
     /// A line at fault ends the run, so that none would be written to the file of such lines.
     AbortingRejects,
 }
@@ -89,6 +101,7 @@ impl<'a> Options<'a, '_> {
     {
         Ok(Rules {
             span: self.span()?,
+            affixes: self.affixes()?,
             reading: self.reading,
             header_lines: self.header_lines,
             passes_empty: self.passes_empty,
@@ -117,14 +130,16 @@ impl<'a> Options<'a, '_> {
             quotes: self.csv,
             output: self.output(delimiter)?,
             only: self.only,
+            blanks: self.blanks,
         }))
     }
 
     /// Returns the byte between two fields.
     fn delimiter(&self) -> Result<u8, OptionFault>
-        ensures { result ≡ delimiter_of self.now.csv self.now.delimiter }
+        ensures { result ≡ delimiter_of self.now self.now.delimiter }
     {
         match self.delimiter {
+            None if self.blanks => Ok(b' '),
             None => Ok(if self.csv { b',' } else { b'\t' }),
             Some("\"") if self.csv => Err(OptionFault::QuoteDelimiter),
             Some(text) => delimiter_named(text).ok_or(OptionFault::LongDelimiter),
@@ -155,6 +170,17 @@ impl<'a> Options<'a, '_> {
             return Err(OptionFault::BarredOutputDelimiter);
         }
         Ok(delimiter)
+    }
+
+    /// Returns the texts that may be before or after a number.
+    fn affixes(&self) -> Result<Option<&'a [&'a str]>, OptionFault>
+        ensures { result ≡ affixes_of self.now.affixes }
+    {
+        match self.affixes {
+            None => Ok(None),
+            Some(affixes) if are_affixes(affixes) => Ok(Some(affixes)),
+            Some(_) => Err(OptionFault::BarredAffix),
+        }
     }
 
     /// Returns the byte that ends a line.
@@ -188,6 +214,48 @@ fn delimiter_named(text: &str) -> Option<u8>
     }
 }
 
+/// Returns whether each of these texts may be before or after a number.
+fn are_affixes(texts: &[&str]) -> bool
+    ensures { result ≡ list_all (λ text. is_affix text.now) texts.now }
+{
+    texts.iter().all(|text| is_affix(text))
+}
+
+/// Returns whether a text may be before or after a number: it has a character, and none that a number may have.
+fn is_affix(text: &str) -> bool
+    ensures { result ≡ is_affix text.now }
+{
+    !text.is_empty() && !is_any_of_number(text)
+}
+
+/// Returns whether a text has a character that a number may have.
+fn is_any_of_number(text: &str) -> bool
+    ensures { result ≡ list_any is_of_number (chars text.now) }
+{
+    text.chars().any(is_of_number)
+}
+
+/// Returns whether a character is one that numbers have, or that is typed or printed for one: a digit or another
+/// numeral, a blank or a mark.
+fn is_of_number(c: char) -> bool
+    ensures { result ≡ is_of_number c }
+{
+    c.is_numeric() || c.is_whitespace() || is_mark(c)
+}
+
+/// Returns whether a character is a sign, comma, point, apostrophe, quote or dash, or a mark of the direction of
+/// writing.
+fn is_mark(c: char) -> bool
+    ensures { result ≡ is_mark c }
+{
+    matches!(
+        c,
+        '"' | '\'' | '+'..='.' | '`' | '\u{b4}' | '\u{2bc}' | '\u{61c}' | '\u{66b}'..='\u{66c}'
+            | '\u{200b}'..='\u{201f}' | '\u{202a}'..='\u{202e}' | '\u{2060}'..='\u{206f}' | '\u{2212}'
+            | '\u{fe50}'..='\u{fe63}' | '\u{ff07}'..='\u{ff0e}'
+    )
+}
+
 impl OptionFault {
     /// Returns what is said of it.
     ///
@@ -203,6 +271,7 @@ impl OptionFault {
             OptionFault::QuoteDelimiter => "the delimiter is a quote",
             OptionFault::LongOutputDelimiter => "the output delimiter is not one ASCII character",
             OptionFault::BarredOutputDelimiter => "the output delimiter is a quote or ends lines",
+            OptionFault::BarredAffix => "an affix is empty, or has a character that numbers have",
             OptionFault::AbortingRejects => "option '--rejects' allows no '--invalid abort'",
         }
     }

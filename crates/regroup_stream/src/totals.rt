@@ -304,7 +304,9 @@ fn sum_rules<'a>(rules: &Rules<'_>, list: &'a [FieldRange]) -> Rules<'a>
                 quoting: Quoting::Necessary,
             }),
             only: false,
+            blanks: false,
         }),
+        affixes: None,
         reading: Reading {
             parsing: Parsing::Strict,
             scale: None,

@@ -1,6 +1,6 @@
 //! The formats that words and files name.
 ghost use Rattle.std.specs.Prelude.{◌≡◌, ◌≤◌, nat_eq, codes, length, IfOk, MatchOption, string_bytes};
-ghost use Rattle.std.specs.List.{starts_with};
+ghost use Rattle.std.specs.List.{list_any, starts_with};
 ghost use Rattle.std.specs.Option.{option_map};
 ghost use Rattle.std.specs.Result.{result_map_both};
 ghost use Rattle.num_format.specs.Grouped.{printed_separator};
@@ -11,7 +11,8 @@ ghost use Rattle.regroup_stream.specs.Words.{LooksUpNotation, NamesCustomOrLocal
 ghost use Rattle.regroup_stream.specs.Words.{NamesFormatsFor, ambiguity_of, arguments_message, bare_delimiter};
 ghost use Rattle.regroup_stream.specs.Words.{begins_blank, cause_of, custom_format_named, marked_format_named};
 ghost use Rattle.regroup_stream.specs.Words.{message_of_wrong, misuse_message, has_byte, misfit, named_of, prints_byte};
-ghost use Rattle.regroup_stream.specs.Words.{prints_delimiter, split_last, text_of_named, wrong_of};
+ghost use Rattle.regroup_stream.specs.Words.{begins_no_break, begins_with_affix, prints_delimiter, split_last};
+ghost use Rattle.regroup_stream.specs.Words.{text_of_named, wrong_of};
 
 use crate::ending::{FAILED, MISUSED, send};
 use crate::files::{FileFault, format_held};
@@ -134,6 +135,9 @@ pub enum Ambiguity {
     TypedAlike,
     /// The minus sign begins with ASCII whitespace, which is not part of a number.
     BlankMinusSign,
+    /// The minus sign begins with a text that may be before a number, or with a no-break space that may be after it,
+    /// and is not part of it.
+    AffixMinusSign,
     /// A number that is printed may have the delimiter, and no quotes are around it.
     PrintsDelimiter,
 }
@@ -166,6 +170,7 @@ impl Ambiguity {
             Ambiguity::NumeralInSymbol => ": a symbol has a digit",
             Ambiguity::TypedAlike => ": ambiguous as people type it",
             Ambiguity::BlankMinusSign => ": the minus sign begins with whitespace",
+            Ambiguity::AffixMinusSign => ": the minus sign begins with an affix",
             Ambiguity::PrintsDelimiter => ": numbers have the delimiter: see --csv",
         }
     }
@@ -272,28 +277,29 @@ pub fn formats_named<'a>(
 /// ```rust
 /// let list = [FieldRange { first: 2, last: Some(2) }];
 /// let (delimiter, quotes, output, only) = (b',', false, None, false);
-/// let span = Span::Fields(Fields { list: &list, delimiter, quotes, output, only });
+/// let span = Span::Fields(Fields { list: &list, delimiter, quotes, output, only, blanks: false });
 /// let (from, to) = (Source::Word("plain"), Source::Word("de"));
-/// formats_for(alloc, Parsing::Strict, &span, from, to).err()    // Some(Ambiguous("de", PrintsDelimiter))
+/// formats_for(alloc, Parsing::Strict, &span, None, from, to).err()    // Some(Ambiguous("de", PrintsDelimiter))
 /// ```
 ///
 /// # Errors
 ///
 /// Returns the error of `formats_named`; or else that the minus sign of the first or of the second begins with
-/// whitespace, which is not part of a number, or that a number may have the delimiter, where fields are neither in
-/// quotes nor written anew.
+/// whitespace, which is not part of a number, that of the first with one of the texts that may be before a number, or
+/// that a number may have the delimiter, where fields are neither in quotes nor written anew.
 pub fn formats_for<'a>(
     alloc: Global,
     parsing: Parsing,
     span: &Span<'_>,
+    affixes: Option<&[&str]>,
     from: Source<'a>,
     to: Source<'a>,
 ) -> Result<Formats, Misuse<'a>>
-    ensures { NamesFormatsFor parsing span.now (named_of from.entry) (named_of to.entry)
+    ensures { NamesFormatsFor parsing span.now affixes.entry (named_of from.entry) (named_of to.entry)
         (result_map_both (λ formats. (formats.from, formats.to)) wrong_of result) }
 {
     let formats = formats_named(alloc, parsing, from, to)?;
-    match misfit(span, from, to, &formats) {
+    match misfit(span, affixes, from, to, &formats) {
         Some(misuse) => Err(misuse),
         None => Ok(formats),
     }
@@ -302,15 +308,19 @@ pub fn formats_for<'a>(
 /// Returns why numbers are not told by two formats where the rules say, if they are not.
 fn misfit<'a>(
     span: &Span<'_>,
+    affixes: Option<&[&str]>,
     from: Source<'a>,
     to: Source<'a>,
     formats: &Formats,
 ) -> Option<Misuse<'a>>
     ensures { option_map wrong_of result
-        ≡ misfit span.now (named_of from.entry) (named_of to.entry) (formats.now.from, formats.now.to) }
+        ≡ misfit span.now affixes.entry (named_of from.entry) (named_of to.entry) (formats.now.from, formats.now.to) }
 {
     if begins_blank(formats.from.format.minus_sign()) {
         return Some(Misuse::Ambiguous(from.text(), Ambiguity::BlankMinusSign));
+    }
+    if begins_with_affix(formats.from.format.minus_sign(), affixes) {
+        return Some(Misuse::Ambiguous(from.text(), Ambiguity::AffixMinusSign));
     }
     if begins_blank(formats.to.format.minus_sign()) {
         return Some(Misuse::Ambiguous(to.text(), Ambiguity::BlankMinusSign));
@@ -339,6 +349,38 @@ fn begins_blank(text: &str) -> bool
         [first, ..] => first.is_ascii_whitespace(),
         [] => false,
     }
+}
+
+/// Returns whether a text begins with one of those that may be before a number, or with a no-break space, which may be
+/// after these, if there are any.
+fn begins_with_affix(text: &str, affixes: Option<&[&str]>) -> bool
+    ensures { result ≡ begins_with_affix text.now affixes.entry }
+{
+    match affixes {
+        Some(affixes) => begins_with_any(text, affixes) || begins_no_break(text),
+        None => false,
+    }
+}
+
+/// Returns whether a text begins with a no-break space.
+fn begins_no_break(text: &str) -> bool
+    ensures { result ≡ begins_no_break text.now }
+{
+    begins_with(text, "\u{a0}") || begins_with(text, "\u{202f}")
+}
+
+/// Returns whether a text begins with one of others.
+fn begins_with_any(text: &str, starts: &[&str]) -> bool
+    ensures { result ≡ list_any (λ start. starts_with nat_eq text.now start.now) starts.now }
+{
+    starts.iter().any(|start| begins_with(text, start))
+}
+
+/// Returns whether a text begins with another one.
+fn begins_with(text: &str, start: &str) -> bool
+    ensures { result ≡ starts_with nat_eq text.now start.now }
+{
+    text.as_bytes().starts_with(start.as_bytes())
 }
 
 /// Returns the delimiter of fields around which no quotes are written.

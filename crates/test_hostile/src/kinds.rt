@@ -55,6 +55,7 @@ const SECOND: Fields<'static> = Fields {
     quotes: true,
     output: None,
     only: false,
+    blanks: false,
 };
 
 const ONLY: Fields<'static> = Fields {

@@ -5,6 +5,7 @@ use regroup_lines::{Invalid, Parsing, Reading, Rules, Span};
 /// Lines of at most 99 bytes, each with one number and maybe spaces around it. The first one at fault ends all.
 pub const RULES: Rules = Rules {
     span: Span::Trimmed,
+    affixes: None,
     reading: Reading {
         parsing: Parsing::Strict,
         scale: None,

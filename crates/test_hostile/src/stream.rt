@@ -370,6 +370,7 @@ fn assert_named(
         quotes: false,
         output: None,
         only: false,
+        blanks: false,
     });
     let rules = Rules {
         span,

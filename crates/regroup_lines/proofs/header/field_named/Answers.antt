@@ -14,10 +14,11 @@ returns-then-is_some c =
     let rest = c.fields.rest.now in
     let same = c.quotes-quotes.ensures in
     let end = c.find_end-len.ensures in
-    let is : is_named cs.quotes name (take c.find_end-len.result.0 rest) ≡ true =
+    let counted = c.number_after-count.ensures.number in
+    let is : is_named cs name (take c.find_end-len.result.0 rest) ≡ true =
     rw c.as_bytes.ensures.value at (sym c.is_named.ensures ∙ c.if-is_named.true) in
     let some : is_some c.fields.found ≡ true = search rules in
-    sym (c.fields.invariant.1 ∙ named-again cs name count rest _ same _ _ (end.searched, end.found) c.fields.found is some)
+    sym (c.fields.invariant.1 ∙ named-again cs name count rest _ same _ _ (end.searched, end.found) _ counted c.fields.found is some)
 
 pub returns-then-len-rest : goal.returns-then-len-rest
 returns-then-len-rest c =
@@ -27,19 +28,22 @@ returns-then-len-rest c =
     let rest = c.fields.rest.now in
     let same = c.quotes-quotes.ensures in
     let end = c.find_end-len.ensures in
+    let counted = c.number_after-count.ensures.number in
     let after : number_named cs c.args.header.now name
-    ≡ then_after cs name count rest _ same _ _ (end.searched, end.found) c.if-is_named.found =
+    ≡ then_after cs name count rest _ same _ _ (end.searched, end.found) c.number_after-count.result c.if-is_named.found =
     elim c.if-is_named.branch [
       | then-is_named+else-is_some w ↦
           let is = rw c.as_bytes.ensures.value at (sym c.is_named.ensures ∙ w.if-is_named.true) in
           let none : is_some c.fields.found ≡ false = search rules in
-          rw w.found-is (c.fields.invariant.1 ∙ named-first cs name count rest _ same _ _ (end.searched, end.found) c.fields.found is none)
+          rw w.found-is (c.fields.invariant.1 ∙ named-first cs name count rest _ same _ _ (end.searched, end.found) _ counted
+          c.fields.found is none)
       | else-is_named w ↦
           let other = rw c.as_bytes.ensures.value at (sym c.is_named.ensures ∙ w.if-is_named.false) in
-          rw w.found-is (c.fields.invariant.1 ∙ named-other cs name count rest _ same _ _ (end.searched, end.found) c.fields.found other)
+          rw w.found-is (c.fields.invariant.1 ∙ named-other cs name count rest _ same _ _ (end.searched, end.found) _ counted
+          c.fields.found other)
     ] in
     ap (result_map_both (λ number. number) misnamed_of) c.ok_or.ensures.value ∙ named-end _ c.if-is_named.found
-    ∙ sym (after ∙ named-last cs name count rest _ same _ _ (end.searched, end.found) c.if-is_named.found c.if-len-rest.true)
+    ∙ sym (after ∙ named-last cs name count rest _ same _ _ (end.searched, end.found) _ counted c.if-is_named.found c.if-len-rest.true)
 
 pub fields-preserved : goal.fields-preserved
 fields-preserved c =
@@ -49,22 +53,25 @@ fields-preserved c =
     let rest = c.fields.rest.now in
     let same = c.quotes-quotes.ensures in
     let end = c.find_end-len.ensures in
+    let counted = c.number_after-count.ensures.number in
     let len = c.find_end-len.result.0 in
     let within : len ≤ length rest = (next cs name count rest _ same _ _ (end.searched, end.found)).4 in
     let more : len < length rest = omega (arith, within, c.if-len-rest.false) in
     let is : slice_range rest (len + 1) (length rest) ≡ drop (len + 1) rest = take_rest rest (len + 1) in
     let size : length (slice_range rest (len + 1) (length rest)) ≡ length rest - (len + 1) = ap length is ∙ length-drop (len + 1) rest in
     let after : number_named cs c.args.header.now name
-    ≡ then_after cs name count rest _ same _ _ (end.searched, end.found) c.if-is_named.found =
+    ≡ then_after cs name count rest _ same _ _ (end.searched, end.found) c.number_after-count.result c.if-is_named.found =
     elim c.if-is_named.branch [
       | then-is_named+else-is_some w ↦
           let is = rw c.as_bytes.ensures.value at (sym c.is_named.ensures ∙ w.if-is_named.true) in
           let none : is_some c.fields.found ≡ false = search rules in
-          rw w.found-is (c.fields.invariant.1 ∙ named-first cs name count rest _ same _ _ (end.searched, end.found) c.fields.found is none)
+          rw w.found-is (c.fields.invariant.1 ∙ named-first cs name count rest _ same _ _ (end.searched, end.found) _ counted
+          c.fields.found is none)
       | else-is_named w ↦
           let other = rw c.as_bytes.ensures.value at (sym c.is_named.ensures ∙ w.if-is_named.false) in
-          rw w.found-is (c.fields.invariant.1 ∙ named-other cs name count rest _ same _ _ (end.searched, end.found) c.fields.found other)
+          rw w.found-is (c.fields.invariant.1 ∙ named-other cs name count rest _ same _ _ (end.searched, end.found) _ counted
+          c.fields.found other)
     ] in (
-      omega (arith, size, more, c.fields.invariant.0),
-      after ∙ named-next cs name count rest _ same _ _ (end.searched, end.found) c.if-is_named.found _ is more,
+      omega (arith, size, more, c.fields.invariant.0, c.number_after-count.ensures.most),
+      after ∙ named-next cs name count rest _ same _ _ (end.searched, end.found) _ counted c.if-is_named.found _ is more,
     )

@@ -7,7 +7,7 @@ use Rattle.regroup_lines.proofs.header.field_named.Given as goal
 abbrev pub invariant-fields : goal.invariant-fields
 invariant-fields l =
     (l.count + length l.rest ≤ length l.header)
-    × (number_named l.fields l.header l.name ≡ also l.name l.found (named_after l.fields.quotes l.name l.count (fields_of l.fields l.rest)))
+    × (number_named l.fields l.header l.name ≡ also l.name l.found (named_after l.fields l.name l.count (fields_of l.fields l.rest)))
 
 abbrev pub decreases-fields : goal.decreases-fields
 decreases-fields l = length l.rest

@@ -1,13 +1,8 @@
 use Rattle.std.specs.Char.{is_ascii_digit}
 use Rattle.std.specs.List.{list_all}
-use Rattle.std.proofs.Common.{rules, true, ◌∙◌, ◌≡◌}
-use Rattle.regroup_stream.proofs.ListLemmas.{number-err, number-ok}
+use Rattle.std.proofs.Common.{rules, true, ◌≡◌}
+use Rattle.regroup_stream.proofs.ListLemmas.{number-err}
 use Rattle.regroup_stream.proofs.list.field_number.Goals as goal
-
-pub returns-in-Ok : goal.returns-in-Ok
-returns-in-Ok c =
-    let digits : list_all is_ascii_digit c.args.text.now ≡ true = search rules in
-    c.counted.ensures ∙ number-ok c.args.text.now c.in-Ok.number c.parse.result c.in-Ok.is c.parse.ensures.value.0 digits
 
 pub returns-in-Err : goal.returns-in-Err
 returns-in-Err c =

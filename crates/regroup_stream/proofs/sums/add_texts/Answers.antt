@@ -1,7 +1,6 @@
 use Rattle.std.proofs.Common.{◌∙◌, [], arith, refl}
-use Rattle.std.proofs.lemmas.Result.{err_from_is_err_and}
 use Rattle.regroup_stream.specs.Columns.{AreNumbers, between_tabs}
-use Rattle.regroup_stream.proofs.SumLemmas.{AreAdded-more, column-reached, last-added, not_added}
+use Rattle.regroup_stream.proofs.SumLemmas.{AreAdded-more, column-reached, last-added}
 use Rattle.regroup_stream.proofs.TabLemmas.{next-text}
 use Rattle.regroup_stream.proofs.sums.add_texts.Goals as goal
 
@@ -19,13 +18,6 @@ add_text-requires c = column-reached c.args.parser.now (between_tabs c.args.line
 pub add_text-requires-2 : goal.add_text-requires-2
 add_text-requires-2 c = column-reached c.args.parser.now (between_tabs c.args.line.now) c.args.sums.now.items c.loop-text.sums.items
     c.loop-text.column _ c.loop-text.invariant.added (c.loop-text.invariant.left ∙ c.in_default.ensures.texts) (omega arith)
-
-pub returns-in_err-add_text : goal.returns-in_err-add_text
-returns-in_err-add_text c =
-    let p = err_from_is_err_and c.from_residual.result c.from_residual.ensures.1 in
-    rw (p.1, p.2) (not_added c.args.parser.now (between_tabs c.args.line.now) c.args.sums.now.items c.loop-text.sums.items
-    c.add_text.new.sums.items c.loop-text.column c.in-Some.text.now _ c.loop-text.invariant.added c.in_err-add_text.field-0.0
-    (c.loop-text.invariant.left ∙ c.in-Some.ensures.texts) c.in_err-add_text.ensures.added)
 
 pub loop-text-preserved : goal.loop-text-preserved
 loop-text-preserved c =

@@ -4,9 +4,6 @@ use Rattle.num_format_decimal.specs.Marks.{MarksDecimals}
 use Rattle.regroup_stream.specs.SumAll.{IsAmbiguous, SumsAll}
 use Rattle.regroup_stream.proofs.totals.sum_all.Goals as goal
 
-pub returns-in_default : goal.returns-in_default
-returns-in_default g c = SumsAll.ambiguous _ _ (subst IsAmbiguous (ap result_ok c.in_default.ensures) tt)
-
 pub returns-in_default-new : goal.returns-in_default-new
 returns-in_default-new g c = SumsAll.ambiguous _ _ (subst IsAmbiguous (ap result_ok c.in-Ok.ensures)
     (subst (λ n. ¬ (MarksDecimals n.format)) (c.reading.view_is ∙ c.latin.ensures) c.in_default-new.ensures.1))

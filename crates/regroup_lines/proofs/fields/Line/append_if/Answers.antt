@@ -1,8 +1,5 @@
-use Rattle.regroup_lines.proofs.AddLemmas.{adds_nil, AddsIf-after}
+use Rattle.regroup_lines.proofs.AddLemmas.{AddsIf-after}
 use Rattle.regroup_lines.proofs.fields.Line.append_if.Goals as goal
-
-pub returns-then-not-is_asked : goal.returns-then-not-is_asked
-returns-then-not-is_asked g c = rw c.if-not-is_asked.true (adds_nil c.args.text.now)
 
 pub returns : goal.returns
 returns g c =

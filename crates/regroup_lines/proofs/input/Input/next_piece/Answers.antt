@@ -76,12 +76,6 @@ returns-then-count-eq0-clause-piece g c =
     c.find_end-len.ensures.found c.if-len-rest.false read.read c.reads.invariant.0 nothing _ c.take_rest.ensures.taken in
     (rest.0, rest.1, omega (arith, room, ap length rest.2, c.take_rest.ensures.len, read.len), read.end c.if-count-eq0.true)
 
-pub returns-in_err-count-clause-flushed : goal.returns-in_err-count-clause-flushed
-returns-in_err-count-clause-flushed g c = Keeps-trans _ _ _ c.reads.invariant.3 c.in_err-count.ensures.flushed
-
-pub returns-then-count-eq0-clause-flushed : goal.returns-then-count-eq0-clause-flushed
-returns-then-count-eq0-clause-flushed g c = Keeps-trans _ _ _ c.reads.invariant.3 c.in_ok-count.ensures.flushed
-
 pub reads-preserved : goal.reads-preserved
 reads-preserved g c =
     let read = c.in_ok-count.ensures in (

@@ -1,9 +1,6 @@
 use Rattle.regroup_lines.proofs.Common.{◌≤◌, ◌++◌, length, take, ap, sym, ◌∙◌, arith}
-use Rattle.regroup_lines.proofs.InputLemmas.{Reads-kept, Reads-none, range-more, range-same}
+use Rattle.regroup_lines.proofs.InputLemmas.{Reads-kept, range-more, range-same}
 use Rattle.regroup_lines.proofs.input.Input.read_more.Goals as goal
-
-pub returns-then-is_err-clause-read : goal.returns-then-is_err-clause-read
-returns-then-is_err-clause-read g c = Reads-none _ _
 
 pub returns-in_default-clause-read : goal.returns-in_default-clause-read
 returns-in_default-clause-read g c =

@@ -1,5 +1,5 @@
 use Rattle.regroup_lines.proofs.Common.{is_utf8-from_IsUtf8, refl, ◌∙◌}
-use Rattle.regroup_faults.proofs.NotationLemmas.{ascii-none, ascii-some, ascii-utf8}
+use Rattle.regroup_faults.proofs.NotationLemmas.{ascii-some, ascii-utf8}
 use Rattle.regroup_lines.proofs.number.Parser.read_text.Goals as goal
 
 pub returns-in-Ok : goal.returns-in-Ok
@@ -14,8 +14,3 @@ returns-in-Ok g c =
       is_utf8-from_IsUtf8 _ (ascii-utf8 z text c.utf8.text),
       ascii-some z text other is.0 (rw is.1 at c.in-Ok.ensures.fits),
     ) refl
-
-pub returns-in-Err : goal.returns-in-Err
-returns-in-Err g c =
-    let other = rw (← c.self.view_is) at c.requires in
-    rw (← c.self.view_is, ascii-none c.self.inside.digits c.args.text.now other c.in-Err.field-0 c.in-Err.ensures.text) refl

@@ -6,7 +6,7 @@ use regroup_faults::Notation;
 
 /// What each line of an input is regrouped by.
 #[derive(Drop)]
-pub(crate) struct Job<'a, F: Format, G: Format> {
+pub(crate) struct Setup<'a, F: Format, G: Format> {
     /// The rules.
     pub(crate) rules: &'a Rules<'a>,
     /// The name of the input, which messages have.

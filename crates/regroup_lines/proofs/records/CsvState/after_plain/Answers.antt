@@ -1,6 +1,6 @@
 use Rattle.regroup_lines.proofs.Common.{ap, inl, inr, is_inside, ◌∙◌}
 use Rattle.regroup_lines.proofs.RecordLemmas.{after-last, after-quoted}
-use Rattle.regroup_lines.proofs.records.Within.after_plain.Goals as goal
+use Rattle.regroup_lines.proofs.records.CsvState.after_plain.Goals as goal
 
 pub returns-in-Quoted : goal.returns-in-Quoted
 returns-in-Quoted c = after-quoted c.args.quotes c.args.self c.args.text.now (ap is_inside c.in-Quoted.is) c.requires
