@@ -31,14 +31,16 @@ without_bytes false len text = drop len text
 without_bytes true len text = take (length text - len) text
 
 -- how many bytes the no-break space has that is there, U+00A0 or U+202F, or 0 if none is
-abbrev pub space_len : (is_end : Bool) → List ℕ → ℕ
-space_len is_end text = if is_at is_end (0xC2 ∷ 0xA0 ∷ []) text then 2 else if is_at is_end (0xE2 ∷ 0x80 ∷ 0xAF ∷ []) text then 3 else 0
+abbrev pub no_break_space_len : (is_end : Bool) → List ℕ → ℕ
+no_break_space_len is_end text =
+    if is_at is_end (0xC2 ∷ 0xA0 ∷ []) text then 2 else if is_at is_end (0xE2 ∷ 0x80 ∷ 0xAF ∷ []) text then 3 else 0
 
 -- how many bytes the first of these texts has that is there in a text, and the no-break space inside it, or 0 if none is
 abbrev pub affix_len : (is_end : Bool) → List (Bor (List ℕ)) → List ℕ → ℕ
 affix_len is_end [] text = 0
 affix_len is_end (affix ∷ affixes) text =
-    if is_at is_end affix.now text then length affix.now + space_len is_end (without_bytes is_end (length affix.now) text)
+    if is_at is_end affix.now text
+    then length affix.now + no_break_space_len is_end (without_bytes is_end (length affix.now) text)
     else affix_len is_end affixes text
 
 -- what is left of a place in a text without one of these texts at its start, one at its end, and the spaces inside them

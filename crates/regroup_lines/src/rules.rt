@@ -3,8 +3,8 @@ ghost use Rattle.std.specs.Prelude.{◌≡◌, ◌≤◌, ◌<◌, ◌+◌, ◌-
 ghost use Rattle.regroup_lines.specs.Csv.{is_bare, output_delimiter};
 ghost use Rattle.regroup_lines.specs.Lines.{mark_len, passes, quotes_in, quotes_of};
 ghost use Rattle.regroup_lines.specs.Places.{affix_len, are_enough, field_count, is_at, is_at_most, is_chosen};
-ghost use Rattle.regroup_lines.specs.Places.{is_chosen_field, is_counted, is_in, least_of, next_of, number_of};
-ghost use Rattle.regroup_lines.specs.Places.{place_of, space_len, stripped, trimmed, wanted_of, without_affixes};
+ghost use Rattle.regroup_lines.specs.Places.{is_chosen_field, is_counted, is_in, least_of, next_of, no_break_space_len};
+ghost use Rattle.regroup_lines.specs.Places.{number_of, place_of, stripped, trimmed, wanted_of, without_affixes};
 ghost use Rattle.regroup_lines.specs.Places.{without_bytes};
 
 use regroup_faults::{FieldCount, Reading};
@@ -374,7 +374,8 @@ fn affix_len(is_end: bool, affixes: &[&str], text: &[u8]) -> usize
 {
     for affix in affixes {
         if is_at(is_end, affix.as_bytes(), text) {
-            return affix.len() + space_len(is_end, without_bytes(is_end, affix.len(), text));
+            let rest = without_bytes(is_end, affix.len(), text);
+            return affix.len() + no_break_space_len(is_end, rest);
         }
     }
     0
@@ -394,8 +395,12 @@ fn without_bytes(is_end: bool, len: usize, text: &[u8]) -> &[u8]
 }
 
 /// Returns how many bytes the no-break space has that is at the start or at the end of a text, or 0 if none is.
-fn space_len(is_end: bool, text: &[u8]) -> usize
-    ensures value { result ≡ space_len is_end text.now }
+///
+/// ```rust
+/// no_break_space_len(false, "\u{202f}5".as_bytes())    // 3
+/// ```
+pub fn no_break_space_len(is_end: bool, text: &[u8]) -> usize
+    ensures value { result ≡ no_break_space_len is_end text.now }
     ensures within { result ≤ length text.now }
 {
     if is_at(is_end, &NO_BREAK_SPACE, text) {

@@ -1,6 +1,6 @@
 -- The formats that words and files name, and what is wrong with those that name none.
-use Rattle.std.specs.Prelude.{◌≡◌, ℕ, ◌==◌, Bool, true, false, not, ◌&&◌, ◌||◌, if◌then◌else◌, nat_eq, List, []}
-use Rattle.std.specs.Prelude.{◌∷◌, ◌++◌, length, drop, codes, Option, None, Some, is_some, option_and_then, Result, Ok, Err, ⊤, ◌⊎◌}
+use Rattle.std.specs.Prelude.{◌≡◌, ℕ, ◌==◌, Bool, true, false, not, ◌&&◌, ◌||◌, if◌then◌else◌, nat_eq, nat_lt, List}
+use Rattle.std.specs.Prelude.{[], ◌∷◌, ◌++◌, length, drop, codes, Option, None, Some, is_some, option_and_then, Result, Ok, Err, ⊤, ◌⊎◌}
 use Rattle.std.specs.Borrow.{Bor}
 use Rattle.std.specs.Char.{is_ascii_whitespace}
 use Rattle.std.specs.List.{list_any, starts_with}
@@ -28,6 +28,7 @@ use Rattle.num_format.specs.Constants.{MAX_DEC_LEN, MAX_MIN_LEN, MAX_SEP_LEN}
 use Rattle.num_format.specs.English.{english}
 use Rattle.regroup_faults.specs.Quoting.{quoted}
 use Rattle.regroup_lines.specs.Ended.{line}
+use Rattle.regroup_lines.specs.Places.{no_break_space_len}
 use Rattle.regroup_lines.specs.declared.rules.Span.{Span}
 use Rattle.regroup_lines.specs.declared.rules.Span.TheVariants as span
 use Rattle.regroup_stream.specs.Files.{HoldsFormat, Unfit, unfit_message, unfit_of}
@@ -217,14 +218,11 @@ abbrev pub begins_blank : List ℕ → Bool
 begins_blank [] = false
 begins_blank (b ∷ text) = is_ascii_whitespace b
 
--- whether a text begins with a no-break space, U+00A0 or U+202F
-abbrev pub begins_no_break : List ℕ → Bool
-begins_no_break text = starts_with nat_eq text (0xC2 ∷ 0xA0 ∷ []) || starts_with nat_eq text (0xE2 ∷ 0x80 ∷ 0xAF ∷ [])
-
 -- whether a text begins with one of those that may be before a number, or with a no-break space, if there are any
 abbrev pub begins_with_affix : List ℕ → Option (Bor (List (Bor (List ℕ)))) → Bool
 begins_with_affix text None = false
-begins_with_affix text (Some affixes) = list_any (λ affix. starts_with nat_eq text affix.now) affixes.now || begins_no_break text
+begins_with_affix text (Some affixes) =
+    list_any (λ affix. starts_with nat_eq text affix.now) affixes.now || nat_lt 0 (no_break_space_len false text)
 
 -- the delimiter of fields around which no quotes are written
 abbrev pub bare_delimiter : Span → Option ℕ

@@ -11,7 +11,7 @@ ghost use Rattle.regroup_stream.specs.Words.{LooksUpNotation, NamesCustomOrLocal
 ghost use Rattle.regroup_stream.specs.Words.{NamesFormatsFor, ambiguity_of, arguments_message, bare_delimiter};
 ghost use Rattle.regroup_stream.specs.Words.{begins_blank, cause_of, custom_format_named, marked_format_named};
 ghost use Rattle.regroup_stream.specs.Words.{message_of_wrong, misuse_message, has_byte, misfit, named_of, prints_byte};
-ghost use Rattle.regroup_stream.specs.Words.{begins_no_break, begins_with_affix, prints_delimiter, split_last};
+ghost use Rattle.regroup_stream.specs.Words.{begins_with_affix, prints_delimiter, split_last};
 ghost use Rattle.regroup_stream.specs.Words.{text_of_named, wrong_of};
 
 use crate::ending::{FAILED, MISUSED, send};
@@ -25,6 +25,7 @@ use num_format_digits::printing::put_text;
 use num_format_typed::TypedParser;
 use regroup_faults::{MAX_FAULT_MESSAGE_LEN, Parsing, quoted};
 use regroup_lines::Span;
+use regroup_lines::rules::no_break_space_len;
 use std::alloc::{AllocError, Global};
 use std::io::{ErrorKind, Write};
 
@@ -357,16 +358,11 @@ fn begins_with_affix(text: &str, affixes: Option<&[&str]>) -> bool
     ensures { result ≡ begins_with_affix text.now affixes.entry }
 {
     match affixes {
-        Some(affixes) => begins_with_any(text, affixes) || begins_no_break(text),
+        Some(affixes) => {
+            begins_with_any(text, affixes) || no_break_space_len(false, text.as_bytes()) > 0
+        }
         None => false,
     }
-}
-
-/// Returns whether a text begins with a no-break space.
-fn begins_no_break(text: &str) -> bool
-    ensures { result ≡ begins_no_break text.now }
-{
-    begins_with(text, "\u{a0}") || begins_with(text, "\u{202f}")
 }
 
 /// Returns whether a text begins with one of others.
