@@ -134,6 +134,7 @@ static int print_columns(void) {
     static int call##_arabext(void) { return call(&prefix##in_arabext); }    \
     static int call##_deva(void) { return call(&prefix##in_deva); }          \
     static int call##_adlm(void) { return call(&prefix##in_adlm); }
+COLUMNS(print_longest, )
 COLUMNS(parse_longest, )
 COLUMNS(parse_longest_typed, )
 COLUMNS(parse_prices, prices_)
@@ -152,13 +153,18 @@ static printed in_hi = {.tag = "hi"}, in_hi_deva = {.tag = "hi-u-nu-deva"};
 
 #define ROOM(which) to->texts[which], sizeof to->texts[which]
 
+/* Prints a number, and returns 0 where the text is as long as the one that was printed before. */
+static const int64_t numbers[] = {[LONGEST] = INT64_MIN, [FEW] = 1234, [SHORT] = -234};
+static int print(const printed *from, int which) {
+    return num_format_print_i64(&from->format, numbers[which], text, sizeof text) != from->lengths[which];
+}
+
 /* Prints them, and returns 0. */
 static int print_texts(printed *to) {
     if (num_format_lookup(&to->format, to->tag, strlen(to->tag)) != 0)
         return 1;
-    to->lengths[LONGEST] = num_format_print_i64(&to->format, INT64_MIN, ROOM(LONGEST));
-    to->lengths[FEW] = num_format_print_i64(&to->format, 1234, ROOM(FEW));
-    to->lengths[SHORT] = num_format_print_i64(&to->format, -234, ROOM(SHORT));
+    for (size_t i = LONGEST; i <= SHORT; i++)
+        to->lengths[i] = num_format_print_i64(&to->format, numbers[i], ROOM(i));
     to->lengths[PRICE] = num_format_print_decimal(&to->format, (uint64_t)-123450, UINT64_MAX, 2, ROOM(PRICE));
     for (size_t i = 0; i < PRINTS; i++)
         if (to->lengths[i] < 0)
@@ -187,6 +193,9 @@ static int typed_price(const printed *from, int which) {
     static int call##_##which##_en_deva(void) { return call(&in_en_deva, which); }    \
     static int call##_##which##_hi(void) { return call(&in_hi, which); }              \
     static int call##_##which##_hi_deva(void) { return call(&in_hi_deva, which); }
+TEXTS_OF(print, LONGEST)
+TEXTS_OF(print, FEW)
+TEXTS_OF(print, SHORT)
 TEXTS_OF(strictly, LONGEST)
 TEXTS_OF(strictly, FEW)
 TEXTS_OF(strictly, SHORT)
@@ -330,10 +339,14 @@ static const struct {
     {"parse typed decimal -1,234.50, fa", typed_decimal_persian, 0},
     {"parse typed decimal -1,234.50, fa, digits arabext", typed_decimal_arabext, 0},
     {"parse a column as typed, i64, 4 rows", typed_column, 0},
+    FOUR("print a column, 19 digits, fa", print_longest),
     FOUR("parse a column strictly, 19 digits, fa", parse_longest),
     FOUR("parse a column as typed, 19 digits, fa", parse_longest_typed),
     FOUR("parse a decimal column, 19 digits, fa", parse_prices),
     FOUR("parse a typed decimal column, 19 digits, fa", parse_prices_typed),
+    DEVA("print i64 INT64_MIN", print_LONGEST),
+    DEVA("print i64 1,234", print_FEW),
+    DEVA("print i64 -234", print_SHORT),
     DEVA("parse strictly i64 INT64_MIN", strictly_LONGEST),
     DEVA("parse strictly i64 1,234", strictly_FEW),
     DEVA("parse strictly i64 -234", strictly_SHORT),

@@ -7,8 +7,8 @@
 No contract counts work: a body that prints, copies or tests twice returns the same. tests/work_checks.tsv has how
 many instructions each call of tests/work_checks.c takes, and a call fails that takes over a tenth more or less.
 Where a change means to, write the table again, and commit it with the change. Whatever the table says, the calls of
-AT_MOST, and these alone, take at most so many times what others take: typed parsing beside strict parsing, and other
-digits beside 0 to 9. Other texts, sets and columns may take more.
+AT_MOST, and these alone, take at most so many times what others take, and SLACK more: typed parsing beside strict
+parsing, and other digits beside 0 to 9. Other texts, sets and columns may take more.
 
 Valgrind's callgrind counts. The counts are the same in each run and on each processor, and other compilers of the
 program in C change them by a few. Without valgrind or a C compiler the checks are skipped, and a last line says so.
@@ -31,6 +31,9 @@ TIMES = 100
 
 # How much more or less than in the table a call may take, in hundredths.
 TOLERANCE = 10
+
+# How many instructions more a call may take by another compiler of the program in C.
+SLACK = 4
 
 # How many times what a call takes another may take, at most.
 AT_MOST = [
@@ -98,8 +101,8 @@ def compare(tally, found):
     """Compares what calls take with what others do."""
     for name, times, other in AT_MOST:
         if name in found and other in found:
-            is_more = found[name] > times * found[other]
-            why = f"{found[name]} instructions are over {times} times the {found[other]} of: {other}"
+            is_more = found[name] > times * found[other] + SLACK
+            why = f"{found[name]} instructions are over {times} times the {found[other]} and {SLACK} of: {other}"
             tally.add(f"{name}, beside {other}", why if is_more else None)
 
 
