@@ -49,7 +49,8 @@ OTHERS = {"Value": "serde_json::Value", "str::from_utf8": "std::str", "Cursor": 
           "two_digits": "num_format_int::to_formatted_str::two_digits",
           "is_plain": "num_format_parsing::symbols::is_plain",
           "digits_size": "num_format_writers::formatted::digits_size",
-          "digit_count": "num_format_writers::formatted::digit_count"}
+          "digit_count": "num_format_writers::formatted::digit_count",
+          "no_break_space_len": "regroup_lines::rules::no_break_space_len"}
 
 BLOCK = re.compile(r"^( *//[/!]) ?```(\w*)\n(.*?)^\1 ?```$", re.DOTALL | re.MULTILINE)
 SHOWN = re.compile(r"(.*?)\s*// (.*)", re.DOTALL)
