@@ -10,8 +10,8 @@ Where a change means to, write the table again, and commit it with the change. W
 AT_MOST, and these alone, take at most so many times what others take, and SLACK more: typed parsing beside strict
 parsing, and other digits beside 0 to 9. Other texts, sets and columns may take more.
 
-Valgrind's callgrind counts. The counts are the same in each run and on each processor, and other compilers of the
-program in C change them by a few. Without valgrind or a C compiler the checks are skipped, and a last line says so.
+Valgrind's callgrind counts. A count may differ by one between runs, which is rounded, and by a few between compilers of
+the program in C. Without valgrind or a C compiler the checks are skipped, and a last line says so.
 The exit status is 1 where one failed.
 """
 import re
@@ -32,7 +32,7 @@ TIMES = 100
 # How much more or less than in the table a call may take, in hundredths.
 TOLERANCE = 10
 
-# How many instructions more a call may take by another compiler of the program in C.
+# How many instructions more a call may take: counts are rounded, and other compilers of the program in C add some.
 SLACK = 4
 
 # How many times what a call takes another may take, at most.
