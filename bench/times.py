@@ -1,13 +1,14 @@
 #!/usr/bin/env python3
 """Runs the commands of README.md, "Prove and test", in fresh clones, and writes below them what each took.
 
-    python3 bench/times.py             # all four, one after the other, in some 40 minutes
-    python3 bench/times.py NAME ..     # of try, test, run and prove those that are named
-    python3 bench/times.py --check     # whether the table there is one that this writes
+    python3 bench/times.py             # all, one after the other, in some three hours
+    python3 bench/times.py NAME ..     # of try, test, run, prove and ci those that are named
+    python3 bench/times.py --check     # whether the tables there are some that this writes
 
 The machine should be idle. A clone has the last commit, and not what was changed since. What a command prints is shown.
-Its row is written once it has ended with status 0, and else the exit status is 1. Where `rt` says that a proof was kept
-by an earlier run in another folder, a first run would take longer, and no row is written either.
+Its row is written once it has ended with status 0, and else the exit status is 1. `prove` and `ci` run with --anew, and
+the table at the end of what `ci` prints goes to README.md beside this file. Where `rt` says that a proof was kept by an
+earlier run in another folder, a first run would take longer, and no row is written either.
 """
 import argparse
 import datetime
@@ -21,15 +22,28 @@ from typing import NamedTuple
 # Nothing is written beside the files that are imported.
 sys.dont_write_bytecode = True
 
+import proof_times
 import tables
 from cells import ROOT
 
 README = ROOT / "README.md"
 
 # The commands in their order: the name here, and that in the table.
-NAMES = {"try": "`rt try`", "test": "`tools/test.py`", "run": "`rt run`", "prove": "`tools/test.py --prove`"}
+NAMES = {
+    "try": "`rt try`",
+    "test": "`tools/test.py`",
+    "run": "`rt run`",
+    "prove": "`tools/test.py --prove`",
+    "ci": "`.ci/run`",
+}
+
+# Those that take no proof of an earlier run where they are told so.
+ANEW = ["prove", "ci"]
 
 HEAD = ["Command", "Minutes", "Measured"]
+
+# What stands for the table of bench/README.md until there is one.
+NOT_MEASURED = "Not measured."
 
 # What `rt` says of a proof that it need not find anew, with the folder where it was kept, if it says which.
 KEPT = re.compile(r"rt: .* is kept: an earlier run|rt: .* begins with what a check kept in (\S+)")
@@ -78,22 +92,29 @@ def problems():
             yield f"README.md, Prove and test: command {place} is not {shown}"
     if tables.block(README, "times") != text(read()):
         yield "README.md, times: not a table that bench/times.py writes: run it"
+    proofs = tables.block(tables.PAGE, "proofs")
+    if proofs != NOT_MEASURED and not proof_times.is_report(proofs.splitlines()[:-2]):
+        yield "bench/README.md, proofs: not a table that bench/times.py writes: run it"
 
 
 def show(line, folder):
-    """Runs a command in a folder, and shows what it prints. Returns its status, and whether another run kept its proofs."""
+    """Runs a command in a folder, and shows what it prints. Returns its status, whether another run kept its proofs, and
+    the lines that it printed."""
     how = {"stdin": subprocess.DEVNULL, "stdout": subprocess.PIPE, "stderr": subprocess.STDOUT}
-    is_kept = False
+    is_kept, lines = False, []
     with subprocess.Popen(["bash", "-c", line], cwd=folder, text=True, errors="replace", **how) as ran:
         for printed in ran.stdout:
             print(printed, end="", flush=True)
+            lines.append(printed.rstrip("\n"))
             found = KEPT.search(printed)
             is_kept |= bool(found) and not (found[1] or "").startswith(folder)
-    return ran.returncode, is_kept
+    return ran.returncode, is_kept, lines
 
 
 def row(name, line):
-    """The row of a command, which runs in a fresh clone. Ends this process where it has none."""
+    """The row of a command, which runs in a fresh clone, and the lines that it printed. Ends this process where it has
+    none."""
+    line = f"{line} --anew" if name in ANEW else line
     with tempfile.TemporaryDirectory(prefix="num-format-times-") as folder:
         clone = f"{folder}/num-format"
         subprocess.run(["git", "clone", "-q", ROOT, clone], check=True)
@@ -102,12 +123,12 @@ def row(name, line):
         of = f"version {tables.VERSION}, commit {commit}, {datetime.date.today()}, {tables.machine()}"
         print(f"== {line}", flush=True)
         started = time.monotonic()
-        status, is_kept = show(line, clone)
+        status, is_kept, lines = show(line, clone)
         seconds = round(time.monotonic() - started)
     print(f"== status {status}, {seconds} s", flush=True)
     if status or is_kept:
         sys.exit(f"{name}: not written: {'a proof was kept by an earlier run' if is_kept else f'status {status}'}")
-    return Row(NAMES[name], f"{seconds // 60}:{seconds % 60:02}", of)
+    return Row(NAMES[name], proof_times.clock(seconds), of), lines
 
 
 def main():
@@ -120,8 +141,11 @@ def main():
     if not set(given.names) <= set(NAMES):
         parser.error(f"the names are {', '.join(NAMES)}")
     for name in given.names or NAMES:
-        found = row(name, commands()[name])
+        found, lines = row(name, commands()[name])
         tables.put(README, "times", text({**read(), found.command: found}))
+        if name == "ci":
+            measured = f"{NAMES[name]}: {found.minutes} minutes, {found.measured}."
+            tables.put(tables.PAGE, "proofs", "\n".join([*proof_times.report_in(lines), "", measured]))
 
 
 if __name__ == "__main__":

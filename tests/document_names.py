@@ -1,4 +1,4 @@
-"""What documents say of names, files and results, and how long they are. readme_code.py shows what differs.
+"""What documents say of names, files and results. readme_code.py shows what differs.
 
 - Each name of several words between backticks in README.md, CONTRIBUTING.md, docs/ or crates/ stands in a file that is
   no document, each file there is one of the repository, and each option is one that regroup-lines or a script takes.
@@ -7,7 +7,6 @@
 - A recipe of CONTRIBUTING.md names each file, or its crate, that has all groupings, or all causes of rejection.
 - Each size in its table of calls that may fail stands in a file that the row names, or is the length of a text there.
 - The results in docs/GUIDE.md are those of the models by which tools/ writes cases.
-- README.md, and all documents, have at most so many words beside what scripts write into them.
 """
 import os
 import re
@@ -48,10 +47,6 @@ RECIPES = {
     "**A grouping.**": ("indian", "posix", "myriad", "sparse"),
     "**A cause of rejection**": ("unexpected", "nodigit", "misspelled", "outofrange", "toomanydecimals"),
 }
-
-# What a script writes into a document, and the most words of documents.
-WRITTEN = re.compile(r"<!-- \S+ writes: .*?<!-- end -->", re.DOTALL)
-MOST = {"README.md": 700, "all documents": 16_000}
 
 
 def text_of(path):
@@ -204,21 +199,11 @@ def other_results():
             yield f"docs/GUIDE.md, {texts}: {found}"
 
 
-def too_long():
-    """The documents that have too many words."""
-    documents = (path for path in files() if path.suffix == ".md")
-    count = {str(path.relative_to(ROOT)): len(WRITTEN.sub("", text_of(path)).split()) for path in documents}
-    count["all documents"] = sum(count.values())
-    for name, most in MOST.items():
-        if count[name] > most:
-            yield f"{name}: {count[name]} words, and at most {most} are read"
-
-
 def problems():
     """All of these."""
     every = [path for path in files() if path.is_file()]
     patterns = "README.md", "CONTRIBUTING.md", "docs/*.md", "crates/*.md"
     paths = [path for pattern in patterns for path in sorted(ROOT.glob(pattern)) if path.name != "DIFFERENCES.md"]
     yield from gone_names(paths, every)
-    for found in undefined(), other_crates(), left_out(every), untested_sizes(), other_results(), too_long():
+    for found in undefined(), other_crates(), left_out(every), untested_sizes(), other_results():
         yield from found

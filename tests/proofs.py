@@ -51,13 +51,14 @@ def keep(copy, name):
         shutil.copy2(built, to)
 
 
-def prove(tally, copy):
+def prove(tally, copy, is_anew):
     """Runs `rt ci`, and adds what its last line counts. Gives the name of each crate once it is proved and its program
     built, and `NAME: tests` once its tests are."""
     heading("rt ci")
     how = {"env": {**lanes(), **os.environ, "PYTHONUNBUFFERED": "1"}, "errors": "replace"}
     line = ""
-    with subprocess.Popen(["rt", "ci"], cwd=copy, stdout=subprocess.PIPE, text=True, **how) as ci:
+    words = ["rt", "ci", *(["--anew"] if is_anew else [])]
+    with subprocess.Popen(words, cwd=copy, stdout=subprocess.PIPE, text=True, **how) as ci:
         for line in ci.stdout:
             print(tidy(line), end="", flush=True)
             found = PROVED.fullmatch(line)

@@ -75,6 +75,7 @@ def is_excerpt(block, source):
 # How other commands begin, with the test that runs them.
 ELSEWHERE = {
     "python3 tools/test.py": ".ci/run",
+    ".ci/run": ".ci/run",
     "python3 tools/own_project.py": "tools/own_project.py",
     "cd ../shop/crates/example && rt check": "tools/own_project.py",
     "(cd crates/num_format_c && rt lib)": "tools/test.py",

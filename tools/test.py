@@ -5,6 +5,8 @@
     python3 tools/test.py --prove            # proves what users need, and runs every test: about an hour
     python3 tools/test.py --prove --edits    # proves the tests too, and tries the must-fail edits: two hours
 
+With --anew nothing counts that an earlier run on this machine proved.
+
 The first needs the kit alone, and runs by `rt try`, side by side: the tests of each crate that has some, the stored run
 and the cases of programs (commands.py), the tables of cases (tests/replay.py), the examples of the doc comments
 (doc_examples.py) and the code of README.md (readme_code.py). Nothing is proved by it. Programs that were built before
@@ -25,8 +27,9 @@ With --prove, side by side:
   with the programs those of a release (packages/release/checks) and of what is measured (bench/test), and
   own_project.py, which proves a crate in a repository of its own over what `rt lib` proved.
 
-The log has the time at which each crate was proved, and for each edit the error that refused it. The last lines name
-each check that was skipped and why, and say how many passed and failed. The exit status is 1 where one failed.
+The log has the time at which each crate was proved, and for each edit the error that refused it. At its end a table has
+what each crate took (bench/proof_times.py). The last lines name each check that was skipped and why, and say how many
+passed and failed. The exit status is 1 where one failed.
 """
 import argparse
 import sys
@@ -34,7 +37,7 @@ import threading
 from pathlib import Path
 
 TOOLS = Path(__file__).resolve().parent
-sys.path.append(str(TOOLS.parent / "tests"))
+sys.path += [str(TOOLS.parent / "tests"), str(TOOLS.parent / "bench")]
 
 import library_checks  # noqa: E402
 import memory_checks  # noqa: E402
@@ -42,7 +45,8 @@ import trials  # noqa: E402
 from case_files import of_crate  # noqa: E402
 from jobs import Jobs  # noqa: E402
 from library_checks import LIBRARY  # noqa: E402
-from proofs import copied, keep, prove  # noqa: E402
+from proof_times import Watch  # noqa: E402
+from proofs import copied, keep, prove, read_crates  # noqa: E402
 from tally import ROOT, Tally, heading  # noqa: E402
 
 # How the name of a program ends as each of the two compilers builds it.
@@ -145,9 +149,9 @@ def waiting(top):
     yield {"library", *programs}, "bench/test", ROOT / "bench" / "test", files[0], files[-1]
 
 
-def test(tally, is_whole):
-    """Proves all, or what users need, and runs every test and program."""
-    with copied(is_whole) as copy, Jobs(tally, shows_all=True, beside=4) as jobs:
+def test(tally, is_whole, is_anew):
+    """Proves all, or what users need, and runs every test and program. Shows what the proofs took."""
+    with copied(is_whole) as copy, Watch(copy) as watch, Jobs(tally, shows_all=True, beside=4) as jobs:
         left, there, lock = [*unproved(is_whole), *waiting(copy)], set(), threading.Lock()
 
         def start(*names):
@@ -162,23 +166,26 @@ def test(tally, is_whole):
         jobs.script("numfmt", "numfmt_rows.py")
         built = {"is_counted": False, "then": lambda: start("library"), "cwd": library_checks.CRATE}
         jobs.start("rt lib", ["nice", "-n", str(SOON), "rt", "lib"], **built)
-        for name in prove(tally, copy):
+        for name in prove(tally, copy, is_anew):
             keep(copy, name)
             start(name)
         # What waits for a crate that is not proved says what is missing.
         start(*(name for needed, *_ in left for name in needed - {"library"}))
+    heading("what the proofs took")
+    print("\n".join(watch.report(read_crates(ROOT))), flush=True)
 
 
 def main():
     parser = argparse.ArgumentParser(description="Tests everything, in minutes, or proves and tests everything.")
     parser.add_argument("--prove", action="store_true", help="prove what users need, and run every test")
     parser.add_argument("--edits", action="store_true", help="prove the tests too, and try the must-fail edits")
+    parser.add_argument("--anew", action="store_true", help="take nothing that an earlier run proved")
     given = parser.parse_args()
-    if given.edits and not given.prove:
-        parser.error("--edits goes with --prove")
+    if (given.edits or given.anew) and not given.prove:
+        parser.error("--edits and --anew go with --prove")
     tally = Tally()
     if given.prove:
-        test(tally, given.edits)
+        test(tally, given.edits, given.anew)
     else:
         heading("the tests, unproved")
         with Jobs(tally, shows_all=False) as jobs:
