@@ -17,9 +17,6 @@ MADE = [".git", "out", "target", "__pycache__"]
 # the edits, the library for C, and the crates of tests that run unproved.
 LEFT_OUT = ["must-fail", "num_format_c", *TRIED]
 
-# The most memory of a check, in bytes. `rt ci` counts on more, and lets processors wait for it.
-CHECK_SIZE = 4_000_000_000
-
 # What `rt ci` says of a crate that is proved, now or by an earlier run, of a must-fail edit that the prover
 # refused, and its last line.
 PROVED = re.compile(r"rt: (\w+)(: its tests are)? (?:proved|is kept: .*)\n")
@@ -55,7 +52,7 @@ def prove(tally, copy, is_anew):
     """Runs `rt ci`, and adds what its last line counts. Gives the name of each crate once it is proved and its program
     built, and `NAME: tests` once its tests are."""
     heading("rt ci")
-    how = {"env": {**lanes(), **os.environ, "PYTHONUNBUFFERED": "1"}, "errors": "replace"}
+    how = {"env": {**os.environ, "PYTHONUNBUFFERED": "1"}, "errors": "replace"}
     line = ""
     words = ["rt", "ci", *(["--anew"] if is_anew else [])]
     with subprocess.Popen(words, cwd=copy, stdout=subprocess.PIPE, text=True, **how) as ci:
@@ -69,13 +66,6 @@ def prove(tally, copy, is_anew):
     tally.count(passed, failed)
     if not passed or bool(ci.returncode) != bool(failed):
         tally.add("rt ci", f"status {ci.returncode} after the line {line!r}")
-
-
-def lanes():
-    """Has `rt ci` use all processors, where there is memory for so many checks."""
-    processors = len(os.sched_getaffinity(0))
-    memory = os.sysconf("SC_PHYS_PAGES") * os.sysconf("SC_PAGE_SIZE")
-    return {"RT_JOBS": str(processors)} if processors * CHECK_SIZE <= memory else {}
 
 
 def tidy(line):

@@ -21,7 +21,9 @@ With --prove, side by side:
 - Once a program is proved, the cases of commands.py and the tables of tests/cases run on it as each compiler built it,
   and what no case can say: program_checks.py, filter_checks.py, stream_checks.py, memory_checks.py, which refuses
   memory, and the READMEs' commands.
-- `rt lib` proves and builds the library for C in this repository. Over it run the tables in C and C++, the tests of
+- `rt lib` proves and builds the library for C in this repository, and proves again what it stands on. It can't stand on
+  what `rt ci` built in the copy: `rt ci` cuts a library to its statements and leaves it without the stamp by which the
+  other commands of `rt` take one, and it builds no library for C. Over it run the tables in C and C++, the tests of
   each package, which but for C replay them in its language, the programs of examples/ and two of packages/c/tests
   (library_checks.py), digits beside ICU and Python (digit_checks.py), the counts of instructions (work_checks.py),
   with the programs those of a release (packages/release/checks) and of what is measured (bench/test), and
