@@ -163,11 +163,25 @@ digits-joined k first part some below =
     digits-split k (first * 10 ^ k + part) (omega arith)
     ∙ rw (div-mul-add first (10 ^ k) part below, ← last_digits-mod k (first * 10 ^ k + part), mod-mul-add first (10 ^ k) part below)
 
+-- how many these are
+pub length-joined : (k first part : ℕ) → 0 < first → part < 10 ^ k → length (digits (first * 10 ^ k + part)) ≡ length (digits first) + k
+length-joined k first part some below =
+    omega (
+      arith,
+      ap length (digits-joined k first part some below),
+      length-append (digits first) (last_digits k part),
+      length-last_digits k part,
+    )
+
 -- a digit 1 and then k digits
 pub digits-leading_one : (k part : ℕ) → part < 10 ^ k → digits (10 ^ k + part) ≡ 1 ∷ last_digits k part
 digits-leading_one k part below =
     let once : 1 * 10 ^ k ≡ 10 ^ k = omega arith in
     (rw once at (digits-joined k 1 part (omega arith) below)) ∙ ap (λ ds. ds ++ last_digits k part) (digits-small 1 (omega arith))
+
+-- how many these are
+pub length-leading_one : (k leading part : ℕ) → leading ≡ 10 ^ k → part < 10 ^ k → length (digits (leading + part)) ≡ k + 1
+length-leading_one k leading part power below = rw (power, digits-leading_one k part below, length-last_digits k part) (omega arith)
 
 -- numbers below ten
 abbrev pub AreDigits : List ℕ → Type 0
@@ -178,3 +192,6 @@ pub digits-below_ten : (n : ℕ) → AreDigits (digits n)
 digits-below_ten = by_digits (λ n. AreDigits (digits n))
     (λ n small. rw (digits-small n small) (All-cons (λ d. d < 10) n [] small (All-nil (λ d. d < 10))))
     (λ n large less. rw (digits-more n large) (All-push (λ d. d < 10) (digits (n / 10)) (n % 10) less (omega arith)))
+
+-- for the room that digits take
+pub ruleset rooms = (length-digits-le39, digits_given)

@@ -7,10 +7,10 @@ use Rattle.num_format_text.specs.Separators.{HaveShape, separates}
 use Rattle.num_format_int.specs.Digits.{digits}
 use Rattle.num_format_int.specs.Grouped.{separated}
 use Rattle.num_format_int.specs.Groups.{last_digits, plain, HasLastGroup, HasGroups, HasOnlyGroups, BeginsWithSeparator, BeginsBefore}
-use Rattle.num_format_int.specs.Groups.{PrependsGroups, PrependsAllBut, PrependsDigits}
-use Rattle.num_format_int.proofs.GroupedLemmas.{separated-plain}
+use Rattle.num_format_int.specs.Groups.{PrependsGroups, PrependsAllBut, PrependsDigits, IsGroupedBefore}
+use Rattle.num_format_int.proofs.GroupedLemmas.{separated-plain, separated-none}
 use Rattle.num_format_int.proofs.DigitLemmas.{digits-split, digits-leading_one, digits_given, length-digits-le, length-digits-split}
-use Rattle.num_format_int.proofs.DigitLemmas.{length-last_digits, last_digits-mod}
+use Rattle.num_format_int.proofs.DigitLemmas.{length-last_digits, last_digits-mod, digits-joined}
 
 -- a group has two digits to four
 pub size_bounds : (size : ℕ) → (size ≡ 2) ⊎ ((size ≡ 3) ⊎ (size ≡ 4)) → (2 ≤ size) × (size ≤ 4)
@@ -121,12 +121,13 @@ none_put size n s before = record {
 }
 
 -- one group more
-pub one_more : (size n left base : ℕ) (s before text after : List ℕ) → base ≡ 10 ^ size → 0 < size → base ≤ left
-    → PrependsAllBut size n left s before text →
+pub one_more : (size n left base : ℕ) (s before text after : List ℕ) → (size ≡ 2) ⊎ ((size ≡ 3) ⊎ (size ≡ 4)) → base ≡ 10 ^ size
+    → base ≤ left → PrependsAllBut size n left s before text →
     after ≡ s ++ (plain (last_digits size (left % base)) ++ text) → PrependsAllBut size n (left / base) s before after
-one_more size n left base s before text after power some large p e =
+one_more size n left base s before text after sizes power large p e =
+    let some = size_bounds size sizes in
     let many : 10 ^ size ≤ left = rw (← power) large in
-    let group = one_group size left s text after some (rw (power, last_digits-mod) at e) in
+    let group = one_group size left s text after (omega (arith, some.0)) (rw (power, last_digits-mod) at e) in
     rw power (record {
       low = last_digits size left ++ p.low;
       count = p.count + 1;
@@ -136,16 +137,17 @@ one_more size n left base s before text after power some large p e =
     })
 
 -- all groups, and then the first
-pub all_digits : (size n first : ℕ) (s before middle after : List ℕ) → 0 < size → first < 10 ^ size
-    → PrependsAllBut size n first s before middle → after ≡ plain (digits first) ++ middle →
+pub all_digits : (size base n first : ℕ) (s before middle after : List ℕ) → (size ≡ 2) ⊎ ((size ≡ 3) ⊎ (size ≡ 4)) → base ≡ 10 ^ size
+    → first < base → PrependsAllBut size n first s before middle → after ≡ plain (digits first) ++ middle →
     PrependsDigits size (digits n) s before after
-all_digits size n first s before middle after some below p e = λ is_due right old groups b.
+all_digits size base n first s before middle after sizes power below p e = λ is_due right old groups b.
+    let some = size_bounds size sizes in
     let q = p.text is_due right old groups b in
     e
     ∙ ap (λ t. plain (digits first) ++ t) q.same
     ∙ sym (append_assoc (plain (digits first)) q.text old)
     ∙ ap (λ t. t ++ old) (put-first_group is_due s (digits first) (p.low ++ right) q.text size groups (digits_given first)
-    (length-digits-le size first some below) q.begins)
+    (length-digits-le size first (omega (arith, some.0)) (rw power at below)) q.begins)
     ∙ rw (p.together, append_assoc) refl
 
 one_digit_left : (size middle count few : ℕ) → (size ≡ 2) ⊎ ((size ≡ 3) ⊎ (size ≡ 4)) → middle % size ≡ 0 → 0 < few → few ≤ size
@@ -158,23 +160,23 @@ after_one (c ∷ []) low rest d one e = cc
 after_one (c ∷ b ∷ ds) low rest d one e = absurd (omega arith)
 
 -- a digit 1 and then the digits of a middle part: these are whole groups, and the 1 is the first group
-pub middle_groups : (size middle part first : ℕ) (s before after : List ℕ) → (size ≡ 2) ⊎ ((size ≡ 3) ⊎ (size ≡ 4)) → middle % size ≡ 0
-    → part < 10 ^ middle → first < 10 ^ size →
-    PrependsAllBut size (10 ^ middle + part) first s before after → PrependsGroups size (last_digits middle part) s before after
-middle_groups size middle part first s before after sizes whole below within p = λ is_due right old groups b.
+pub middle_groups : (size base middle leading part first : ℕ) (s before after : List ℕ) → (size ≡ 2) ⊎ ((size ≡ 3) ⊎ (size ≡ 4))
+    → base ≡ 10 ^ size → leading ≡ 10 ^ middle → middle % size ≡ 0 → part < 10 ^ middle → first < base →
+    PrependsAllBut size (leading + part) first s before after → PrependsGroups size (last_digits middle part) s before after
+middle_groups size base middle leading part first s before after sizes power leads whole below within p = λ is_due right old groups b.
     let some = size_bounds size sizes in
-    let all = sym (digits-leading_one middle part below) ∙ p.together in
+    let all = sym (digits-leading_one middle part below) ∙ ap (λ n. digits (n + part)) (sym leads) ∙ p.together in
     let long = ap length all ∙ length-append (digits first) p.low in
     let alone = one_digit_left size middle p.count (length (digits first)) sizes whole (digits_given first)
-    (length-digits-le size first (omega (arith, some.0)) within)
+    (length-digits-le size first (omega (arith, some.0)) (rw power at within))
     (omega (arith, long, p.whole, length-last_digits middle part)) in
     rw (after_one (digits first) p.low (last_digits middle part) 1 alone all) at (p.text is_due right old groups b)
 
 -- a group and its separator fit, if five bytes a digit did
-pub group_fits : (held separator size base left most : ℕ) → 2 ≤ size → base ≡ 10 ^ size → base ≤ left → separator ≤ 8
-    → held + 5 * length (digits left) ≤ most →
+pub group_fits : (held separator size base left most : ℕ) → (size ≡ 2) ⊎ ((size ≡ 3) ⊎ (size ≡ 4)) → base ≡ 10 ^ size → base ≤ left
+    → separator ≤ 8 → held + 5 * length (digits left) ≤ most →
     held + separator + size + 5 * length (digits (left / base)) ≤ most
-group_fits held separator size base left most some power large short within =
+group_fits held separator size base left most sizes power large short within =
     let split = length-digits-split size left (rw (← power) large) in
     let same : length (digits (left / base)) ≡ length (digits (left / 10 ^ size)) = rw power in
     omega arith
@@ -182,3 +184,18 @@ group_fits held separator size base left most some power large short within =
 -- a last group has three digits or four
 pub last_bounds : (size middle : ℕ) → ((size ≡ 3) × (middle ≡ 18)) ⊎ ((size ≡ 4) × (middle ≡ 16)) → (3 ≤ size) × (size ≤ 4)
 last_bounds size middle parts = (omega arith, omega arith)
+
+-- the digits of two parts of a number
+pub both_parts : (size k first part : ℕ) (s old middle new : List ℕ) → 0 < first → part < 10 ^ k
+    → PrependsGroups size (last_digits k part) s old middle → PrependsDigits size (digits first) s middle new →
+    PrependsDigits size (digits (first * 10 ^ k + part)) s old new
+both_parts size k first part s old middle new some below groups ds = λ is_due right text grouped before.
+    ds is_due (last_digits k part ++ right) text grouped (groups is_due right text grouped before)
+    ∙ rw (digits-joined k first part some below, append_assoc) refl
+
+-- digits in groups, with a separator of no byte
+pub ungrouped : (ds old new : List ℕ) → IsGroupedBefore 3 3 [] ds old new → new ≡ plain ds ++ old
+ungrouped ds old new before =
+    let threes : Sizes = record { last = 3; size = 3; least = 0 } in
+    before (separates threes (length ds)) (last_group-by threes (length ds) (omega arith)) (groups-by threes (inl (refl, refl)) (length ds))
+    ∙ ap (λ t. t ++ old) (separated-none (separates threes (length ds)) ds)

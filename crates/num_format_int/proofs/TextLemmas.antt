@@ -9,8 +9,9 @@ use Rattle.num_format_text.specs.Format.{FormatData, IsWithinCapacity}
 use Rattle.num_format_int.specs.declared.buffer.TheConstants.{MAX_BUF_LEN}
 use Rattle.num_format_int.specs.Digits.{digits}
 use Rattle.num_format_int.specs.Grouped.{grouped, separated, separators, stands}
+use Rattle.num_format_int.specs.Laws.{BoundLaw, DigitsLaw, EndsLaw}
 use Rattle.num_format_int.specs.Text.{body_of, text_of}
-use Rattle.num_format_int.proofs.DigitLemmas.{digits_given, length-digits-le39}
+use Rattle.num_format_int.proofs.DigitLemmas.{digits-small, digits-more, digits_given, length-digits-le39, number_from_digits-digits}
 use Rattle.num_format_int.proofs.GroupedLemmas.{length-grouped, length-grouped-le183, stands-last}
 
 -- the length of a text: the minus sign, the digits, and the separators times their length
@@ -73,3 +74,15 @@ body_of-ends f n last others e =
     let some : 0 < d = omega (arith, length-append others (last ∷ [])) in
     let rest = separated-ends (stands f.grouping d) (stands-last f.grouping d some) f.separator others last in
     (rest.0, rw e (rest.1))
+
+-- what is promised of each number and its text
+pub digits_law : DigitsLaw
+digits_law = record { one = digits-small; more = digits-more; written = number_from_digits-digits; leading_zero = λ ds. refl }
+
+pub ends_law : EndsLaw
+ends_law = record { begins = body_of-begins; ends = body_of-ends }
+
+pub bound_law : BoundLaw
+bound_law = record { bound = length-text_of-le_max; reached = length-text_of-i128-MIN }
+
+pub ruleset text_lengths = (length-text_of)

@@ -7,7 +7,7 @@ use Rattle.std.proofs.lemmas.Bool.Decides.{Decides-by_and, Decides-ltb}
 use Rattle.std.proofs.lemmas.Str.Ascii.{IsAscii-from_all}
 use Rattle.num_format_int.specs.Digits.{digits}
 use Rattle.num_format_int.specs.Groups.{last_digits, plain}
-use Rattle.num_format_int.proofs.DigitLemmas.{digits-small, digits-two, digits-three}
+use Rattle.num_format_int.proofs.DigitLemmas.{digits-small, digits-two, digits-three, digits-four}
 use Rattle.num_format_int.specs.declared.to_formatted_str.TheConstants.{TRIPLES}
 
 abbrev all_ascii : List ℕ → Bool
@@ -72,3 +72,6 @@ without_zeros n skipped below two one none =
             rw (none many, digits-three n many below, high, middle, low)
       ]
     ]
+
+-- for a first group of up to four digits
+pub ruleset first_groups = (digits-four, without_zeros)

@@ -107,6 +107,7 @@ impl Buffer {
     /// ```rust
     /// Buffer::of(&1000, &Locale::en).as_str()    // "1,000"
     /// ```
+    #[tactic(auto, using(crate::proofs::BufferLemmas::utf8_from))]
     pub fn as_str(&self) -> &str
         ensures same { result.now ≡ self.now }
         ensures fits { length result.now ≤ MAX_BUF_LEN }
@@ -158,6 +159,7 @@ impl Buffer {
     ///
     /// The bytes before the text are zero already, so of a short text only the last bytes of the
     /// array are set to zero, which takes a fraction of the time that the whole array takes.
+    #[tactic(auto, using(crate::proofs::BufferLemmas::all_cleared))]
     pub(crate) fn clear(&mut self)
         ensures { self.new ≡ [] }
     {
@@ -211,6 +213,7 @@ impl PutFront for Buffer {
 
 /// Copies a text right before a place of an array, and returns where the text begins there without its first
 /// `skipped` bytes, which stand before it too.
+#[tactic(auto, using(crate::proofs::BufferLemmas::copied))]
 #[inline(always)]
 pub fn copy_before(text: &str, skipped: usize, place: usize, array: &mut [u8]) -> usize
     requires fits { (length text.now ≤ place) × (place ≤ length array.old) }

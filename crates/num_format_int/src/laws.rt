@@ -10,12 +10,14 @@ use crate::to_formatted_str::ToFormattedStr;
 
 /// The digits of a number: `n` alone below ten, and else the digits of `n / 10` and then `n % 10`.
 /// They write the number, and a leading zero does not change which number digits write.
+#[tactic(auto, using(crate::proofs::TextLemmas::digits_law))]
 pub fn digits()
     ensures { DigitsLaw }
 {}
 
 /// The length of a text in bytes: that of the minus sign of a negative number, the number of
 /// digits, and the number of separators times the length of one.
+#[tactic(auto, using(crate::proofs::TextLemmas::text_lengths))]
 pub fn text_length()
     ensures { LengthLaw }
 {}
@@ -23,11 +25,13 @@ pub fn text_length()
 /// No text of a number from `i128::MIN` to `u128::MAX` has more than 191 bytes. That of `i128::MIN`
 /// has as many where the grouping is Indian, and the separator and the minus sign have 8 bytes
 /// each.
+#[tactic(auto, using(crate::proofs::TextLemmas::bound_law))]
 pub fn text_bound()
     ensures { BoundLaw }
 {}
 
 /// After the minus sign, a text begins and ends with a digit: no separator leads or trails.
+#[tactic(auto, using(crate::proofs::TextLemmas::ends_law))]
 pub fn text_ends()
     ensures { EndsLaw }
 {}
