@@ -44,14 +44,14 @@ some_digit t utf8 any none = text_digits-some t any (sym (text_digits-bytes t ut
 utf8-canonical : (f : FormatData) (t : List ℕ) (d : FixedPoint) → IsPlainFormat f → IsCanonicalDecimal f t d → IsUtf8 t
 utf8-canonical f t d plain is_canonical = (tells-canonical_decimal f t d.units d.scale plain is_canonical).utf8
 
-module _ (f : FormatData) (t : List ℕ) (plain : IsPlainFormat f) (marks : MarksDecimals f) where
+module _ (f : FormatData) (t : List ℕ) (plain : IsPlainFormat f) where
   canonical_cause : (d : FixedPoint) (e : StrictError) → IsCanonicalDecimal f t d → d.scale ≤ MAX_SCALE → IsDecimalCause f t e
       → (e ≡ OutOfRange) × ¬ (HasUnits d)
   canonical_cause d e is_canonical bound p =
       let utf8 = utf8-canonical f t d plain is_canonical in
       let large : e ≡ OutOfRange = grind arith in
       let cause = (rw large at p).1 in
-      (large, λ fits. cause.wrong (subst HasUnits (canonical_once f t d cause.decimal plain marks.apart is_canonical cause.canonical) fits))
+      (large, λ fits. cause.wrong (subst HasUnits (canonical_once f t d cause.decimal plain is_canonical cause.canonical) fits))
 
   -- two causes of one refusal are the same
   other_cause : ((a : ℕ) → DecimalStopsAt f t a → IsExpectedDecimal f t → ⊥) → ((a b : ℕ) → DecimalStopsAt f t a → DecimalStopsAt f t b
@@ -69,7 +69,7 @@ module _ (f : FormatData) (t : List ℕ) (plain : IsPlainFormat f) (marks : Mark
   result_judged (Ok a) judged = record {
     decimal = λ d. (
       (λ same. let one : a ≡ d = cc in subst (ParsesDecimal f t) one judged),
-      (λ parses. ap Ok (canonical_once f t a d plain marks.apart judged.canonical parses.canonical)),
+      (λ parses. ap Ok (canonical_once f t a d plain judged.canonical parses.canonical)),
     );
     refused = λ e. ((λ wrong. absurd (cc)), (λ cause. absurd ((canonical_cause a e judged.canonical judged.bound cause).1 judged.fits)));
   }

@@ -30,7 +30,6 @@ use Rattle.num_format_parsing.proofs.SymbolLemmas.{some_first}
 use Rattle.num_format_parsing.proofs.UnreadLemmas.{begins-at_digit, begins-given, plain-first}
 use Rattle.num_format_parsing.proofs.ReadingLemmas.{digits_among-append, digits_among-separated, is_ascii_digit-digit}
 use Rattle.num_format_parsing.proofs.CanonicalLemmas.{signed_number-unsigned_abs, utf8-separated}
-use Rattle.num_format_certificates.proofs.RoundTripLemmas.{two-from_all, unambiguous-from_two}
 use Rattle.num_format_decimal.specs.FixedPoint.{FixedPoint, fixed_point}
 use Rattle.num_format_decimal.specs.Marks.{IsPlainFormat, MarksDecimals}
 use Rattle.num_format_decimal.specs.Parsing.{IsCanonicalDecimal}
@@ -45,9 +44,7 @@ plain-from_marks f sign separator mark marks = record {
   sign_utf8 = sign;
   separator_utf8 = separator;
   mark_utf8 = mark;
-  unambiguous = unambiguous-from_two f sign separator (two-from_all f marks.reads_back);
-  given = marks.given;
-  mark = marks.plain;
+  marks = marks;
 }
 
 -- a text in UTF-8 whose digits are these
@@ -112,13 +109,14 @@ module _ (f : FormatData) (p : IsPlainFormat f) where
   printed = printed_separator f.grouping f.separator
 
   plain-printed : IsPlainText printed []
-  plain-printed = plain-symbol printed (of_printed IsUtf8 IsUtf8-nil f.grouping f.separator p.separator_utf8) p.unambiguous.separator
+  plain-printed = plain-symbol printed (of_printed IsUtf8 IsUtf8-nil f.grouping f.separator p.separator_utf8)
+      p.marks.unambiguous.separator
 
   plain-sign : IsPlainText f.minus_sign []
-  plain-sign = plain-symbol f.minus_sign p.sign_utf8 p.unambiguous.sign
+  plain-sign = plain-symbol f.minus_sign p.sign_utf8 p.marks.unambiguous.sign
 
   pub plain-mark : IsPlainText f.decimal []
-  plain-mark = plain-symbol f.decimal p.mark_utf8 p.mark
+  plain-mark = plain-symbol f.decimal p.mark_utf8 p.marks.mark.plain
 
   -- such a text begins with the minus sign exactly if it is negative
   sign-told : (t : List ℕ) (b : Bool) (n k : ℕ) → IsSigned f t b n k → is_negative_text f t ≡ b
@@ -133,7 +131,7 @@ module _ (f : FormatData) (p : IsPlainFormat f) where
       let begins = separated-begins body.is_due printed ds (digits_given (n / 10 ^ k)) (digits-below_ten (n / 10 ^ k)) in
       let first : t ≡ (48 + begins.0) ∷ (begins.2 ++ rest) = cc (signed.text, signed.amount.text, body.same, begins.3) in
       ap (is_negative_text f) first
-      ∙ sym (begins-given f.minus_sign ((48 + begins.0) ∷ (begins.2 ++ rest)) (some_first f.minus_sign p.unambiguous.sign_given))
+      ∙ sym (begins-given f.minus_sign ((48 + begins.0) ∷ (begins.2 ++ rest)) (some_first f.minus_sign p.marks.unambiguous.sign_given))
       ∙ begins-at_digit f.minus_sign (begins.2 ++ rest) (48 + begins.0) plain-sign.digits (is_ascii_digit-digit begins.0 begins.1)
 
   pub tells-signed : (t : List ℕ) (b : Bool) (n k : ℕ) → IsSigned f t b n k → Tells f t b n
@@ -191,7 +189,7 @@ pub tail-cut : (f : FormatData) (front ds : List ℕ) → IsPlainFormat f → li
     → tail_digits (front ++ (f.decimal ++ ds)) ≡ length ds
 tail-cut f front ds p all =
     let none = (plain-mark f p).digits in
-    tail-skip front (f.decimal ++ ds) (marked-off f.decimal ds none p.given) ∙ tail-marked f.decimal ds none all
+    tail-skip front (f.decimal ++ ds) (marked-off f.decimal ds none p.marks.mark.given) ∙ tail-marked f.decimal ds none all
 
 -- so a text has as many decimals as digits at its end, if it has some
 pub tail-signed : (f : FormatData) (t : List ℕ) (b : Bool) (n k : ℕ) → IsPlainFormat f → 0 < k → IsSigned f t b n k → tail_digits t ≡ k
@@ -248,18 +246,9 @@ module _ (P : List ℕ → Type 0) (is_due : ℕ → Bool) (s : List ℕ) (none 
       runs-mark mark (c ∷ ds) es (if due then s else []) last plain_mark (of_either (λ xs. byte_digits xs ≡ []) refl due s none)
       (All-tail (λ x. x < 10) d (c ∷ ds) below) digit (omega arith) tail.1
 
-apart-either : (mark s : List ℕ) (g : Grouping) → ¬ (mark ≡ []) → (g ≡ Posix) ⊎ (¬ (mark ≡ s)) → ¬ (mark ≡ printed_separator g s)
-apart-either mark s g given apart same = grind arith
-
--- the mark is not the separator that is printed
-pub apart-printed : (f : FormatData) → ¬ (f.decimal ≡ []) → (f.grouping ≡ Posix) ⊎ (¬ (f.decimal ≡ f.separator))
-    → ¬ (f.decimal ≡ printed_separator f.grouping f.separator)
-apart-printed f given apart same = apart-either f.decimal f.separator f.grouping given apart same
-
 -- so a text with decimals is not one without
-none_at_zero : (f : FormatData) (t : List ℕ) (b : Bool) (n k : ℕ) → IsPlainFormat f → (f.grouping ≡ Posix) ⊎ (¬ (f.decimal ≡ f.separator))
-    → 0 < k → IsSigned f t b n 0 → ¬ (IsSigned f t b n k)
-none_at_zero f t b n k p apart some whole parts =
+none_at_zero : (f : FormatData) (t : List ℕ) (b : Bool) (n k : ℕ) → IsPlainFormat f → 0 < k → IsSigned f t b n 0 → ¬ (IsSigned f t b n k)
+none_at_zero f t b n k p some whole parts =
     let s = printed_separator f.grouping f.separator in
     let none = (plain-printed f p).digits in
     let ds = digits (n / 10 ^ 0) in
@@ -274,29 +263,28 @@ none_at_zero f t b n k p apart some whole parts =
     cc (parts.text, parts.amount.text, second.same, append_assoc sign (separated second.is_due s es) rest, mark-some f k some) in
     let P = λ (xs : List ℕ). ¬ (f.decimal ≡ xs) in
     let all =
-    runs-separated P first.is_due s none ds [] (digits-below_ten (n / 10 ^ 0)) refl p.given p.given (apart-printed f p.given apart) in
+    runs-separated P first.is_due s none ds [] (digits-below_ten (n / 10 ^ 0)) refl p.marks.mark.given p.marks.mark.given p.marks.mark.apart in
     runs-mark P second.is_due s none f.decimal es (last_digits k n) [] second.last (plain-mark f p).digits refl
     (digits-below_ten (n / 10 ^ k)) (last_digits-below k n) (digits_given (n / 10 ^ k))
     (subst (λ xs. AllByRecursion P (slice_split is_ascii_digit xs)) (append_cancel_left sign _ _ (sym one ∙ two)) all) refl
 
 -- and has one scale at most
-pub one_scale : (f : FormatData) (t : List ℕ) (z : ℤ) (j k : ℕ) → IsPlainFormat f → (f.grouping ≡ Posix) ⊎ (¬ (f.decimal ≡ f.separator))
-    → IsCanonicalDecimal f t (fixed_point z j) → IsCanonicalDecimal f t (fixed_point z k) → j ≡ k
-one_scale f t z j k p apart first second = pick j k (signed-canonical f t (fixed_point z j) first)
+pub one_scale : (f : FormatData) (t : List ℕ) (z : ℤ) (j k : ℕ) → IsPlainFormat f → IsCanonicalDecimal f t (fixed_point z j)
+    → IsCanonicalDecimal f t (fixed_point z k) → j ≡ k
+one_scale f t z j k p first second = pick j k (signed-canonical f t (fixed_point z j) first)
     (signed-canonical f t (fixed_point z k) second)
   where
     pick : (j k : ℕ) → IsSigned f t (is_negative z) (unsigned_abs z) j → IsSigned f t (is_negative z) (unsigned_abs z) k → j ≡ k
     pick zero zero a b = refl
-    pick zero (suc k) a b = absurd (none_at_zero f t _ _ (suc k) p apart (omega arith) a b)
-    pick (suc j) zero a b = absurd (none_at_zero f t _ _ (suc j) p apart (omega arith) b a)
+    pick zero (suc k) a b = absurd (none_at_zero f t _ _ (suc k) p (omega arith) a b)
+    pick (suc j) zero a b = absurd (none_at_zero f t _ _ (suc j) p (omega arith) b a)
     pick (suc j) (suc k) a b = sym (tail-signed f t _ _ (suc j) p (omega arith) a) ∙ tail-signed f t _ _ (suc k) p (omega arith) b
 
 -- and is canonical for one decimal at most
-pub canonical_once : (f : FormatData) (t : List ℕ) (a b : FixedPoint) → IsPlainFormat f
-    → (f.grouping ≡ Posix) ⊎ (¬ (f.decimal ≡ f.separator))
-    → IsCanonicalDecimal f t a → IsCanonicalDecimal f t b → a ≡ b
-canonical_once f t a b p apart first second =
+pub canonical_once : (f : FormatData) (t : List ℕ) (a b : FixedPoint) → IsPlainFormat f → IsCanonicalDecimal f t a
+    → IsCanonicalDecimal f t b → a ≡ b
+canonical_once f t a b p first second =
     let units : a.units ≡ b.units = sym (denoted-decimal f t a.units a.scale (tells-canonical_decimal f t a.units a.scale p first))
     ∙ denoted-decimal f t b.units b.scale (tells-canonical_decimal f t b.units b.scale p second) in
-    ap (λ z. fixed_point z a.scale) units ∙ ap (fixed_point b.units) (one_scale f t b.units a.scale b.scale p apart
+    ap (λ z. fixed_point z a.scale) units ∙ ap (fixed_point b.units) (one_scale f t b.units a.scale b.scale p
     (subst (λ z. IsCanonicalDecimal f t (fixed_point z a.scale)) units first) second)

@@ -1,7 +1,7 @@
 -- What a parser of decimals reads of a text, and what it leaves out.
 use Rattle.std.proofs.Common.{◌≡◌, ℕ, zero, suc, ◌+◌, ◌-◌, ◌*◌, ◌/◌, ◌^◌, ◌<◌, ◌≤◌, inl, inr, Bool, true, false, List, [], ◌∷◌, ◌++◌}
 use Rattle.std.proofs.Common.{length, take, drop, take-append-drop, drop-drop, refl, ap, ◌∙◌, sym, subst, arith, length-append, length-drop}
-use Rattle.std.proofs.Common.{IsUtf8, ℤ, unsigned_abs, Err, append-nil, ◌⊎◌}
+use Rattle.std.proofs.Common.{ℤ, unsigned_abs, Err, append-nil, ◌⊎◌}
 use Rattle.std.specs.Prelude.{if◌then◌else◌, FitsSigned, Result, Ok}
 use Rattle.std.specs.Char.{is_ascii_digit}
 use Rattle.std.specs.Int.{is_negative, w128}
@@ -14,34 +14,31 @@ use Rattle.std.proofs.lemmas.List.{append_cancel_left, drop_at, take_rest}
 use Rattle.std.proofs.lemmas.Slice.Eq.{starts_is}
 use Rattle.num_format_text.specs.Format.{FormatData}
 use Rattle.num_format_int.specs.Digits.{digits}
-use Rattle.num_format_int.specs.Grouped.{grouped, printed_separator}
+use Rattle.num_format_int.specs.Grouped.{grouped}
 use Rattle.num_format_int.specs.Groups.{last_digits, plain}
 use Rattle.num_format_int.specs.Kind.{signed_number}
 use Rattle.num_format_int.proofs.DigitLemmas.{digits-small}
 use Rattle.num_format_int.proofs.GroupedLemmas.{grouped-Posix, grouped-short}
 use Rattle.num_format_parsing.specs.Reading.{is_negative_text}
 use Rattle.num_format_parsing.specs.Shapes.{HasPlainSymbols, HasSign, byte_digits}
-use Rattle.num_format_parsing.specs.Strict.{IsUnambiguous, IsCanonical, begins, unexpected, ungrouped, with_separators, without_separators}
+use Rattle.num_format_parsing.specs.Strict.{IsCanonical, begins, unexpected, ungrouped, with_separators, without_separators}
 use Rattle.num_format_parsing.proofs.CanonicalLemmas.{body-told, signed-abs, signed-sign, sign-behind, unexpected-none}
-use Rattle.num_format_certificates.proofs.RoundTripLemmas.{round_trips-from_unambiguous}
 use Rattle.num_format_decimal.specs.declared.parser.Fault.{Fault}
 use Rattle.num_format_decimal.specs.declared.parser.Fault.TheVariants.{TooLarge, NotCanonical}
 use Rattle.num_format_decimal.specs.declared.decimal.TheConstants.{MAX_SCALE}
 use Rattle.num_format_decimal.specs.FixedPoint.{FixedPoint, fixed_point}
-use Rattle.num_format_decimal.specs.Marks.{IsMark, IsPlainFormat, MarksDecimals}
+use Rattle.num_format_decimal.specs.Marks.{IsPlainFormat, MarksDecimals}
 use Rattle.num_format_decimal.specs.Parsing.{IsDecimalOutOfRange, ParsesDecimal, IsCanonicalDecimal}
 use Rattle.num_format_decimal.specs.Shapes.{HasAmount, HasReading, IsAmount, IsCut, IsSigned, tail_digits}
 use Rattle.num_format_decimal.specs.Text.{mark_at}
 use Rattle.num_format_decimal.specs.Values.{HasUnits}
-use Rattle.num_format_decimal.proofs.MarkLemmas.{apart-printed, tail-cut, tail-signed, tells-signed, tells-canonical_decimal}
+use Rattle.num_format_decimal.proofs.MarkLemmas.{tail-cut, tail-signed, tells-signed, tells-canonical_decimal}
 use Rattle.num_format_decimal.proofs.MarkLemmas.{plain-from_marks}
 use Rattle.num_format_decimal.proofs.ScaleLemmas.{grown}
 use Rattle.num_format_decimal.proofs.CanonicalLemmas.{amount-before, ends-read, signed-canonical, canonical-signed}
 use Rattle.num_format_decimal.proofs.TextLemmas.{length-plain, mark-some}
 use Rattle.num_format_parsing.proofs.UnreadLemmas.{begins-append, begins-split}
 use Rattle.num_format_parsing.proofs.SymbolLemmas.{some_first}
-use Rattle.num_format_text.specs.declared.grouping.Grouping.{Grouping}
-use Rattle.num_format_text.specs.declared.grouping.Grouping.TheVariants.{Posix}
 
 -- a number is an amount
 pub amount_of : (f : FormatData) (t : List ℕ) (z : ℤ) → IsCanonical f t z → IsAmount f t (is_negative z) (unsigned_abs z)
@@ -123,7 +120,7 @@ module _ (f : FormatData) (t : List ℕ) (d : FixedPoint) (p : IsPlainFormat f) 
   pub mark_there : (place : ℕ) → place + length f.decimal + d.scale ≡ length t → begins f.decimal (drop place t) ≡ true
   mark_there place all =
       let front : length parts.0 ≡ place = omega (arith, long, all) in
-      begins-append f.decimal (drop place t) parts.1 (some_first f.decimal p.given)
+      begins-append f.decimal (drop place t) parts.1 (some_first f.decimal p.marks.mark.given)
       (ap (drop place) parts.3 ∙ drop_at parts.0 (f.decimal ++ parts.1) place front)
 
 -- so no text is canonical for a decimal with decimals, if they are too few or too many, or the mark does not stand before them
@@ -240,22 +237,6 @@ module _ (f : FormatData) (t : List ℕ) (place end : ℕ) (cut : IsCut f.decima
   cut_either p none r read = reads_either f t r (λ d some few is_canonical.
       cut_reads (Err NotCanonical) none d (cut_scale d p some is_canonical) is_canonical) read
 
-apart-separator : (mark s : List ℕ) (g : Grouping) → ¬ (mark ≡ printed_separator g s) → (g ≡ Posix) ⊎ (¬ (mark ≡ s))
-apart-separator mark s g apart = grind arith
-
--- which formats mark decimals, by their symbols
-pub marks_from : (f : FormatData) → IsUtf8 f.minus_sign → IsUtf8 f.separator → IsUnambiguous f
-    → IsMark f.decimal (printed_separator f.grouping f.separator) → MarksDecimals f
-marks_from f sign separator plain mark = record {
-  reads_back = round_trips-from_unambiguous f sign separator plain;
-  given = mark.given;
-  plain = mark.plain;
-  apart = apart-separator f.decimal f.separator f.grouping mark.apart;
-}
-
-pub mark_from : (f : FormatData) → MarksDecimals f → IsMark f.decimal (printed_separator f.grouping f.separator)
-mark_from f marks = record { given = marks.given; plain = marks.plain; apart = apart-printed f marks.given marks.apart }
-
 -- for where a mark stands
 pub ruleset marking = (mark_split, take_rest)
 
@@ -265,4 +246,4 @@ pub ruleset readings = (cut_either, reads_either)
 
 pub ruleset amounts = (plain_amount, take_rest)
 
-pub ruleset marks = (marks_from, plain-from_marks, mark_from)
+pub ruleset marks = (plain-from_marks)

@@ -11,6 +11,9 @@ use num_format_text::Format;
 /// Then a text is canonical for one decimal at most, and each decimal of each scale, printed under the format, parses
 /// as the same decimal again. Under any other format parsing refuses every text.
 ///
+/// The contract says that the format `IsUnambiguous` where this says that every whole number reads back: by the law
+/// `num_format::laws::round_trips` these are the same.
+///
 /// ```rust
 /// marks_decimals(&Locale::de)                                       // true, as for each locale
 /// marks_decimals(&CustomFormat::builder().decimal(",").build()?)    // false: the separator is a comma too

@@ -34,7 +34,6 @@ use Rattle.num_format_decimal.specs.declared.decimal.TheConstants.{MAX_SCALE}
 use Rattle.num_format_parsing.specs.declared.error.StrictError.TheVariants.{AmbiguousFormat, Misspelled, NoDigit, NotUtf8}
 use Rattle.num_format_parsing.specs.declared.error.StrictError.TheVariants.{OutOfRange, TooManyDecimals, Unexpected}
 use Rattle.num_format_decimal.proofs.MarkLemmas.{denoted-decimal, plain-from_marks, canonical_once, tells-canonical_decimal}
-use Rattle.num_format_decimal.proofs.ParserLemmas.{mark_from, marks_from}
 
 -- the tests of symbols and units
 no_numeral-Decides : (t : List ℕ) → Decides (has_no_numeral t) (HasNoNumeral t)
@@ -59,11 +58,13 @@ module _ (f : FormatData) (utf8 : HasUtf8Texts f) where
   marks-Decides =
       let separator = printed_separator f.grouping f.separator in
       Decides-like _
-      (λ h. marks_from f utf8.minus_sign utf8.separator (record { sign_given = h.0.0; sign = h.0.1; separator = h.1.0 })
-      (record { given = h.1.1.0.0; plain = h.1.1.0.1; apart = h.1.1.1 }))
+      (λ h. record {
+        unambiguous = record { sign_given = h.0.0; sign = h.0.1; separator = h.1.0 };
+        mark = record { given = h.1.1.0.0; plain = h.1.1.0.1; apart = h.1.1.1 };
+      })
       (λ marks.
-      let plain = (plain-marks marks).unambiguous in
-      let mark = mark_from f marks in
+      let plain = marks.unambiguous in
+      let mark = marks.mark in
       ((plain.sign_given, plain.sign), (plain.separator, ((mark.given, mark.plain), mark.apart))))
       (Decides-and _ _ (sign-Decides f.minus_sign) (Decides-and _ _ (no_numeral-Decides separator)
       (Decides-and _ _ (sign-Decides f.decimal) (Decides-not _ (bytes_eq-Decides f.decimal separator)))))
@@ -115,7 +116,7 @@ module _ (f : FormatData) (utf8 : HasUtf8Texts f) where
         where
           pick : (o : Option FixedPoint) → Found (MAX_SCALE + 1) o → o ≡ Some d
           pick None missed = absurd (missed d (omega (arith, bound)) is_canonical)
-          pick (Some e) hit = ap Some (canonical_once f t e d (plain-marks marks) marks.apart hit.1 is_canonical)
+          pick (Some e) hit = ap Some (canonical_once f t e d (plain-marks marks) hit.1 is_canonical)
 
       canonical-none : ((d : FixedPoint) → d.scale ≤ MAX_SCALE → ¬ (IsCanonicalDecimal f t d)) → canonical_value f t ≡ None
       canonical-none none = pick (canonical_value f t) (found (MAX_SCALE + 1))
