@@ -23,14 +23,16 @@ use Rattle.num_format_decimal.specs.declared.error.DecimalError.{DecimalError}
 use Rattle.num_format_decimal.specs.declared.error.DecimalError.TheVariants as rescale
 use Rattle.num_format_decimal.specs.declared.parsing.ParseAtScaleError.{ParseAtScaleError}
 use Rattle.num_format_decimal.specs.declared.parsing.ParseAtScaleError.TheVariants.{Parse, Rescale}
+use Rattle.num_format_decimal.specs.Ways.{Way, placed, placed_at_scale}
+use Rattle.num_format_decimal.specs.Ways as ways
 use Rattle.num_format_digits.specs.Digits.{digits_named, in_digits, set_numbered}
-use Rattle.num_format_digits.specs.Parsing.{ParsesDigits, Way, placed_at_scale, placed_typed}
-use Rattle.num_format_digits.specs.Parsing as ways
+use Rattle.num_format_digits.specs.Parsing.{ParsesDigits}
 use Rattle.num_format_digits.specs.declared.parsing.DigitsError.{DigitsError}
 use Rattle.num_format_digits.specs.declared.parsing.DigitsError.TheVariants as digits
 use Rattle.num_format_digits.specs.Tags.{TagResult, digits_in}
 use Rattle.num_format_digits.specs.declared.tags.UnknownDigits.{UnknownDigits}
-use Rattle.num_format_typed.specs.Typed.{placed}
+use Rattle.num_format_typed.specs.Typed.{placed_typed}
+use Rattle.num_format_typed.specs.Typed as typed_ways
 use Rattle.num_format_typed.specs.declared.error.TypedError.{TypedError}
 use Rattle.num_format_typed.specs.declared.error.TypedError.TheVariants as typed
 use Rattle.num_format_c.specs.FormatRef.{Agrees, HasFormat, HasLatin, IsPadded, digits_of, format_of, format_with, grouping_of}
@@ -199,19 +201,19 @@ abbrev pub numbers : {X : Type 0} → Kind → (X → ℤ) → Parsing X StrictE
 numbers k value = crossing (ways.numbers k value) placed status_of place_of
 
 abbrev pub typed_numbers : {X : Type 0} → Kind → (X → ℤ) → Parsing X (TypedError StrictError)
-typed_numbers k value = crossing (ways.typed_numbers k value) (placed_typed placed) (typed_status_of status_of) (typed_place_of place_of)
+typed_numbers k value = crossing (typed_ways.typed_numbers k value) (placed_typed placed) (typed_status_of status_of) (typed_place_of place_of)
 
 abbrev pub decimals : Parsing FixedPoint StrictError
 decimals = crossing ways.decimals placed status_of place_of
 
 abbrev pub typed_decimals : Parsing FixedPoint (TypedError StrictError)
-typed_decimals = crossing ways.typed_decimals (placed_typed placed) (typed_status_of status_of) (typed_place_of place_of)
+typed_decimals = crossing typed_ways.typed_decimals (placed_typed placed) (typed_status_of status_of) (typed_place_of place_of)
 
 abbrev pub at_scale : (scale : ℕ) → Parsing FixedPoint ParseAtScaleError
 at_scale scale = crossing (ways.at_scale scale) placed_at_scale at_scale_status_of at_scale_place_of
 
 abbrev pub typed_at_scale : (scale : ℕ) → Parsing FixedPoint (TypedError ParseAtScaleError)
-typed_at_scale scale = crossing (ways.typed_at_scale scale) (placed_typed placed_at_scale) (typed_status_of at_scale_status_of)
+typed_at_scale scale = crossing (typed_ways.typed_at_scale scale) (placed_typed placed_at_scale) (typed_status_of at_scale_status_of)
     (typed_place_of at_scale_place_of)
 
 -- a result with the status in place of the error, and the place after it

@@ -1,31 +1,31 @@
 //! What the calls do, with Rust's types.
-ghost use Rattle.std.specs.Prelude.{◌≡◌, ◌<◌, ◌≤◌, length, pos, MatchResult, if◌then◌else◌};
+ghost use Rattle.std.specs.Prelude.{◌≡◌, ◌<◌, ◌≤◌, length, pos, IfSome, IsUtf8, Ok, MatchResult, if◌then◌else◌};
 ghost use Rattle.num_format.specs.Alike.{Alike};
 ghost use Rattle.num_format.specs.RoundTrips.{RoundTrips};
 ghost use Rattle.num_format.specs.Text.{text_of};
-ghost use Rattle.num_format_decimal.specs.Marks.{MarksDecimals};
-ghost use Rattle.num_format_typed.specs.Typed.{IsTypable};
-ghost use Rattle.num_format_digits.specs.Parsing as ways;
+ghost use Rattle.num_format_decimal.specs.Ways.{placed};
+ghost use Rattle.num_format_typed.specs.Typed as ways;
+ghost use Rattle.num_format_typed.specs.Typed.{placed_typed};
+ghost use Rattle.num_format_digits.specs.Parsing.{InDigits};
 ghost use Rattle.num_format_digits.specs.declared.printing.TheConstants.{MAX_DIGIT_TEXT_LEN};
 ghost use Rattle.num_format_c.specs.Calls.{ByTag, FillsByTag, FillsCustom, FillsLocale, NamesByTag, ReturnsLength};
 ghost use Rattle.num_format_c.specs.Calls.{ReturnsDecimalLength, Gets, GetsBits, Parses, ParsesBits, Prints};
 ghost use Rattle.num_format_c.specs.Calls.{PrintsDecimal, SetsDigits, Tells, Writes, WritesName, begins_with_mark};
 ghost use Rattle.num_format_c.specs.Calls.{columns_of, crossing, decimal_of, decimals, numbers, returned, signed_kind};
 ghost use Rattle.num_format_c.specs.Calls.{typed_decimals, typed_numbers, unsigned_kind};
-ghost use Rattle.num_format_c.specs.declared.status.Status.TheVariants.{AmbiguousFormat};
 ghost use Rattle.num_format_c.specs.FormatRef.{HasFormat, HasLatin, IsFormatIn, IsFormatOf, digits_of, format_of};
 
 use crate::format::{FormatRef, NumFormat, grouping_of};
 use crate::shown;
 use crate::status::{Cause, Status, crossed};
 use crate::wide::decimal_of;
-use num_format::parsing::{FromFormattedStr, ParseBytesError, StrictError, StrictParser};
+use num_format::parsing::{FromFormattedStr, ParseBytesError, StrictParser};
 use num_format::utils::{DecimalStr, MinusSignStr, SeparatorStr};
 use num_format::{Buffer, Format, Locale, ToFormattedStr};
-use num_format_decimal::{Decimal, DecimalBuffer, DecimalParser};
-use num_format_digits::{Digits, TextParser};
+use num_format_decimal::{Decimal, DecimalBuffer, DecimalParser, MAX_DECIMAL_LEN, TextParser};
+use num_format_digits::Digits;
 use num_format_int::buffer::copy_bytes;
-use num_format_typed::{TypedError, TypedParser, parse_typed_bytes, parse_typed_decimal_bytes};
+use num_format_typed::{TypedDecimals, TypedParser, parse_typed_bytes, parse_typed_decimal_bytes};
 use num_format_writers::formatted::is_char_start;
 
 /// Calls a function for the integer type of 8, 16, 32 or 64 bits.
@@ -351,10 +351,30 @@ pub fn parse_typed<N: FromFormattedStr, F: Format>(
     if digits.is_latin() {
         return crossed(parse_typed_bytes::<N, F>(text, format), at);
     }
-    if let Some(number) = digits.parse_shown_typed::<N, F>(text, format) {
+    if let Some(number) = parse_typed_shown::<N, F>(format, digits, text) {
         return Ok(number);
     }
     parse_typed_any(format, digits, text, at)
+}
+
+/// Returns the number that a person means by the text of the bytes in another digit set than `0` to `9`, or `None`
+/// where only [`parse_typed_any`] can tell.
+#[inline(never)]
+fn parse_typed_shown<N: FromFormattedStr, F: Format>(
+    format: &F,
+    digits: Digits,
+    text: &[u8],
+) -> Option<N>
+    ensures { IfSome result (λ n. IsUtf8 text.now
+        × InDigits (ways.typed_numbers N.kind N.value) (placed_typed placed)
+        (F.answers format.now) digits text.now (Ok n)) }
+{
+    let mut array = [0; MAX_DECIMAL_LEN];
+    let len = digits.take_plain(text, &mut array)?;
+    match parse_typed_bytes(&array[..len], format) {
+        Ok(number) => Some(number),
+        Err(_) => None,
+    }
 }
 
 /// Does the same for a text that is no number as it is printed, or with other symbols than those of locales.
@@ -372,23 +392,6 @@ fn parse_typed_any<N: FromFormattedStr, F: Format>(
     parse_any::<N, _>(&TypedParser::new(format)?, digits, text, at)
 }
 
-/// A parser of whole numbers and decimals, by which decimals are parsed.
-#[derive(Drop)]
-struct Decimals<P>(P);
-
-impl<'a, F: Format> TextParser<Decimal> for Decimals<TypedParser<'a, F>> {
-    type Error = TypedError<StrictError>;
-
-    ghost format = { λ p. p.0 };
-
-    ghost way = { λ _. ways.typed_decimals };
-
-    #[inline(always)]
-    fn parse_text(&self, ascii: &[u8]) -> Result<Decimal, TypedError<StrictError>> {
-        self.0.parse_decimal_bytes(ascii)
-    }
-}
-
 /// Parses the text as people type it as a decimal, as [`parse_in`] does.
 pub fn parse_typed_decimal(
     format: &NumFormat,
@@ -401,22 +404,7 @@ pub fn parse_typed_decimal(
     if digits.is_latin() {
         return crossed(parse_typed_decimal_bytes(text, &format), at);
     }
-    parse_in(&Decimals(typed_parser(&format)?), digits, text, at)
-}
-
-/// Returns a parser of typed texts under the format, if that marks decimals.
-pub fn typed_parser<F: Format>(format: &F) -> Result<TypedParser<'_, F>, Status>
-    ensures { MatchResult result
-        (λ parser. (parser ≡ F.answers format.now)
-        × IsTypable (F.answers format.now) × MarksDecimals (F.answers format.now))
-        (λ status. (status ≡ AmbiguousFormat)
-        × (¬ (IsTypable (F.answers format.now) × MarksDecimals (F.answers format.now)))) }
-{
-    let parser = TypedParser::new(format)?;
-    if !parser.marks_decimals() {
-        return Err(Status::AmbiguousFormat);
-    }
-    Ok(parser)
+    parse_in(&TypedDecimals::new(&format)?, digits, text, at)
 }
 
 /// Fills the struct with the format of a separator, a grouping's number, a minus sign and a decimal mark,

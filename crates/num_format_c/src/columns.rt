@@ -14,7 +14,7 @@ ghost use Rattle.num_format_c.specs.Columns.{to_parsed, to_printed};
 ghost use Rattle.num_format_c.specs.FormatRef.{IsFormatIn, IsFormatOf, format_with};
 ghost use Rattle.num_format_c.specs.Layout.{IsEnough, row_bytes, row_text, texts_of};
 
-use crate::calls::{self, parse_in, typed_parser};
+use crate::calls::{self, parse_in};
 use crate::format::{FormatRef, NumFormat};
 use crate::layout::{
     OffsetType, Printer, Rows, Texts, Value, Values, print_texts, row_count, set_value, texts_len,
@@ -23,12 +23,14 @@ use crate::status::{Cause, Status};
 use crate::wide::scale_of;
 use num_format::Format;
 use num_format::parsing::StrictParser;
-use num_format_decimal::{Decimal, DecimalBuffer, DecimalParser, MAX_DECIMAL_LEN};
+use num_format_decimal::{
+    AtScale, Decimal, DecimalBuffer, DecimalParser, MAX_DECIMAL_LEN, TextParser,
+};
 use num_format_digits::printing::{MAX_DIGIT_TEXT_LEN, shown_len};
-use num_format_digits::{AtScale, DigitText, Digits, TextParser};
+use num_format_digits::{DigitText, Digits};
 use num_format_int::buffer::PutFront;
 use num_format_int::to_formatted_str::put_text;
-use num_format_typed::TypedParser;
+use num_format_typed::{TypedAtScale, TypedDecimals, TypedParser};
 
 /// The numbers of the ways to parse a column; any other is lenient.
 const STRICT: u32 = 0;
@@ -553,8 +555,8 @@ pub fn parse_typed_decimals(
     let scale = scale_of(scale)?;
     let offset_type = OffsetType::from_code(offset_code).ok_or(Status::BadType)?;
     let (format, digits) = FormatRef::new(format)?;
-    let parser = typed_parser(&format)?;
-    let typed = AtScale { parser, scale };
+    let parser = TypedDecimals::new(&format)?;
+    let typed = TypedAtScale { parser, scale };
     let parser = DigitParser {
         parser: typed,
         digits,

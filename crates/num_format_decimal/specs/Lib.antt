@@ -9,3 +9,4 @@ pub mod Rounded
 pub mod Shapes
 pub mod Text
 pub mod Values
+pub mod Ways

@@ -2,8 +2,8 @@
 //! of `num_format`.
 //!
 //! Each file imports only earlier ones of `error`, `decimal`, `powers`, `rounding`, `arithmetic`, `comparing`,
-//! `buffer`, `length`, `printing`, `reading`, `parsing`, `parser`, `marks` and `laws`. Any may be changed. Whole
-//! numbers are printed and parsed by the crates below.
+//! `buffer`, `length`, `printing`, `reading`, `parsing`, `parser`, `text_parser`, `marks` and `laws`. Any may be
+//! changed. Whole numbers are printed and parsed by the crates below.
 //!
 //! A [`Decimal`] is a whole number of units and a scale: 150 at scale 2 is 1.50.
 //!
@@ -32,6 +32,7 @@ mod powers;
 pub mod printing;
 mod reading;
 pub mod rounding;
+pub mod text_parser;
 
 pub use buffer::{DecimalBuffer, MAX_DECIMAL_LEN};
 pub use decimal::{Decimal, MAX_SCALE};
@@ -42,3 +43,4 @@ pub use parser::DecimalParser;
 pub use parsing::{ParseAtScaleError, ParseDecimal};
 pub use printing::FormattedDecimal;
 pub use rounding::Rounding;
+pub use text_parser::{AtScale, Placed, TextParser};

@@ -7,7 +7,7 @@ use Rattle.std.specs.List.{flat_map, list_any}
 use Rattle.std.specs.Option.{option_or}
 use Rattle.std.specs.Str.{chars}
 use Rattle.num_format_parsing.specs.Reading.{is_numeric, is_other_numeral}
-use Rattle.num_format_typed.specs.Rewriting.{images}
+use Rattle.num_format_rewriting.specs.Rewriting.{images}
 use Rattle.num_format_digits.specs.Sets.{locales, sets}
 
 -- the zero that stands beside a name

@@ -10,7 +10,7 @@ ghost use Rattle.num_format_digits.specs.declared.sets.TheConstants.{LEN};
 
 use crate::sets;
 use num_format_locale::Locale;
-use num_format_typed::rewriting::{Image, split_first};
+use num_format_rewriting::{Image, split_first};
 use std::marker::Model;
 use unicode::properties::GeneralCategory;
 

@@ -10,13 +10,13 @@
 //! DigitText::of(&1234567, &Locale::ar_EG, arab).as_str()    // "١٬٢٣٤٬٥٦٧"
 //! arab.parse_strict::<i32, _>("١٬٢٣٤", &Locale::ar_EG)      // Ok(1234)
 //! arab.parse_strict::<i32, _>("١٬٢3٤", &Locale::ar_EG)      // Err(OtherNumeral { at: 6 })
-//! arab.parse_typed::<i32, _>(" +١٬٢٣٤", &Locale::ar_EG)     // Ok(1234)
+//! let typed = TypedParser::new(&Locale::ar_EG)?;
+//! arab.parse_by::<i32, _>(" +١٬٢٣٤", &typed)               // Ok(1234)
 //! ```
 #![tactic(auto)]
 
 pub mod digits;
 pub mod laws;
-pub mod parser;
 pub mod parsing;
 mod plain;
 pub mod printing;
@@ -24,7 +24,6 @@ pub mod sets;
 pub mod tags;
 
 pub use digits::Digits;
-pub use parser::{AtScale, TextParser};
 pub use parsing::DigitsError;
 pub use printing::DigitText;
 pub use tags::UnknownDigits;

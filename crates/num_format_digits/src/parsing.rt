@@ -1,23 +1,20 @@
-//! Parsing of a text in one digit set, strictly or as people type it.
-ghost use Rattle.std.specs.Prelude.{◌≡◌, ◌≤◌, None, Ok, IfOk, IfSome, IsUtf8, MatchOption, MatchResult, length};
+//! Parsing of a text in one digit set, strictly or by any parser of texts in `0` to `9`.
+ghost use Rattle.std.specs.Prelude.{◌≡◌, ◌≤◌, None, Ok, IfOk, IfSome, IsUtf8, MatchResult, length};
 ghost use Rattle.std.specs.Str.{chars};
 ghost use Rattle.num_format_decimal.specs.declared.buffer.TheConstants.{MAX_DECIMAL_LEN};
-ghost use Rattle.num_format_decimal.specs.Marks.{MarksDecimals};
-ghost use Rattle.num_format_typed.specs.Typed.{IsTypable, placed};
+ghost use Rattle.num_format_decimal.specs.Ways.{at_scale, decimals, numbers, placed, placed_at_scale};
 ghost use Rattle.num_format_digits.specs.Digits.{HasOneSet, ascii_of, other_from};
-ghost use Rattle.num_format_digits.specs.Parsing.{InDigits, IsTextCause, ParsesDigits, at_scale, decimals, numbers};
-ghost use Rattle.num_format_digits.specs.Parsing.{placed_at_scale, placed_typed, typed_at_scale, typed_decimals};
-ghost use Rattle.num_format_digits.specs.Parsing.{typed_numbers};
+ghost use Rattle.num_format_digits.specs.Parsing.{InDigits, IsTextCause, ParsesDigits};
 
 use crate::digits::Digits;
-use crate::parser::{AtScale, Decimals, Placed, TextParser};
-use num_format_decimal::{Decimal, DecimalParser, MAX_DECIMAL_LEN, ParseAtScaleError};
+use num_format_decimal::{
+    AtScale, Decimal, DecimalParser, MAX_DECIMAL_LEN, ParseAtScaleError, Placed, TextParser,
+};
 use num_format_parsing::{FromFormattedStr, StrictError, StrictParser};
+use num_format_rewriting::{rewrite, split_first};
 use num_format_text::Format;
-use num_format_typed::rewriting::{rewrite, split_first};
-use num_format_typed::{TypedError, TypedParser, parse_typed_bytes};
 
-/// Why a text was refused as a number in a digit set. `E` is the error of strict or of typed parsing.
+/// Why a text was refused as a number in a digit set. `E` is the error of the parser.
 #[derive(Clone, Copy, Debug, PartialEq, Eq)]
 pub enum DigitsError<E> {
     /// The first numeric character of the text that is no digit of the set begins after `at` bytes: a digit of
@@ -75,26 +72,6 @@ impl Digits {
         parser.number(&array[..len])
     }
 
-    /// Does the same for a number that a person types, if all other characters of the text are ASCII or symbols of
-    /// locales.
-    #[inline(never)]
-    pub fn parse_shown_typed<N: FromFormattedStr, F: Format>(
-        self,
-        text: &[u8],
-        format: &F,
-    ) -> Option<N>
-        ensures { IfSome result (λ n. IsUtf8 text.now
-            × InDigits (typed_numbers N.kind N.value) (placed_typed placed)
-            (F.answers format.now) self text.now (Ok n)) }
-    {
-        let mut array = [0; MAX_DECIMAL_LEN];
-        let len = self.take_plain(text, &mut array)?;
-        match parse_typed_bytes(&array[..len], format) {
-            Ok(number) => Some(number),
-            Err(_) => None,
-        }
-    }
-
     /// Does the same for a decimal, if all other characters of the text are ASCII or symbols of locales.
     pub fn parse_shown_decimal<F: Format>(self, text: &[u8], format: &F) -> Option<Decimal>
         ensures { IfSome result (λ d. IsUtf8 text.now
@@ -102,15 +79,6 @@ impl Digits {
     {
         let parser = DecimalParser::new(format).ok()?;
         self.parse_shown_by(text, &parser)
-    }
-
-    /// Does the same for a decimal that a person types.
-    pub fn parse_shown_typed_decimal<F: Format>(self, text: &[u8], format: &F) -> Option<Decimal>
-        ensures { IfSome result (λ d. IsUtf8 text.now
-            × InDigits typed_decimals (placed_typed placed) (F.answers format.now) self text.now (Ok d)) }
-    {
-        let parser = typed_parser(format)?;
-        self.parse_shown_by(text, &Decimals(parser))
     }
 
     /// Returns the decimal for which the text is canonical in the digits of the set.
@@ -154,73 +122,17 @@ impl Digits {
         }
     }
 
-    /// Returns the number that a person means by the text in the digits of the set: `parse_typed` of the text with `0`
-    /// to `9` for them. (No data type is meant.)
+    /// Returns what a parser returns of the text with `0` to `9` for the digits of the set. A place in an error counts
+    /// the bytes of the text that was given.
+    ///
+    /// The parsers of num_format_typed return the number that a person means. (No data type is meant.)
     ///
     /// ```rust
     /// let arab = Digits::of_locale(Locale::ar_EG);
-    /// arab.parse_typed::<i32, _>(" -١٬٢٣٤", &Locale::ar_EG)    // Ok(-1234)
+    /// arab.parse_by::<i32, _>(" -١٬٢٣٤", &TypedParser::new(&Locale::ar_EG)?)    // Ok(-1234)
+    /// let parser = TypedDecimals::new(&Locale::ar_EG)?;
+    /// arab.parse_by("+١٢٫٥", &TypedAtScale { parser, scale: 2 })                // Ok(12.50)
     /// ```
-    pub fn parse_typed<N: FromFormattedStr, F: Format>(
-        self,
-        text: &str,
-        format: &F,
-    ) -> Result<N, DigitsError<TypedError<StrictError>>>
-        ensures { InDigits (typed_numbers N.kind N.value) (placed_typed placed)
-            (F.answers format.now) self text.now result }
-    {
-        match TypedParser::new(format) {
-            Ok(parser) => self.parse_by(text, &parser),
-            Err(error) => Err(DigitsError::Number(TypedError::Number(error))),
-        }
-    }
-
-    /// Returns the decimal that a person means by the text in the digits of the set. (No data type is meant.)
-    ///
-    /// ```rust
-    /// let arabext = Digits::of_locale(Locale::fa);
-    /// arabext.parse_typed_decimal("+۱۲٫۵۰", &Locale::fa)    // Ok(12.50)
-    /// ```
-    pub fn parse_typed_decimal<F: Format>(
-        self,
-        text: &str,
-        format: &F,
-    ) -> Result<Decimal, DigitsError<TypedError<StrictError>>>
-        ensures { InDigits typed_decimals (placed_typed placed) (F.answers format.now) self text.now result }
-    {
-        match typed_parser(format) {
-            Some(parser) => self.parse_by(text, &Decimals(parser)),
-            None => Err(DigitsError::Number(TypedError::Number(StrictError::AmbiguousFormat))),
-        }
-    }
-
-    /// Returns the decimal that a person means by the text in the digits of the set at another scale: the same number,
-    /// or an error. (No data type is meant.)
-    ///
-    /// ```rust
-    /// let arabext = Digits::of_locale(Locale::fa);
-    /// arabext.parse_typed_at_scale("+۱۲٫۵", 2, &Locale::fa)    // Ok(12.50)
-    /// ```
-    pub fn parse_typed_at_scale<F: Format>(
-        self,
-        text: &str,
-        scale: u8,
-        format: &F,
-    ) -> Result<Decimal, DigitsError<TypedError<ParseAtScaleError>>>
-        ensures { InDigits (typed_at_scale scale) (placed_typed placed_at_scale)
-            (F.answers format.now) self text.now result }
-    {
-        match typed_parser(format) {
-            Some(parser) => self.parse_by(text, &AtScale { parser, scale }),
-            None => {
-                let cause = ParseAtScaleError::Parse(StrictError::AmbiguousFormat);
-                Err(DigitsError::Number(TypedError::Number(cause)))
-            }
-        }
-    }
-
-    /// Returns what a parser returns of the text with `0` to `9` for the digits of the set. A place in an error counts
-    /// the bytes of the text that was given.
     pub fn parse_by<T, P: TextParser<T>>(
         self,
         text: &str,
@@ -233,7 +145,7 @@ impl Digits {
         let ascii = self.to_ascii(text, &mut array)?;
         match parser.parse_text(ascii) {
             Ok(number) => Ok(number),
-            Err(error) => Err(DigitsError::Number(error.placed(self, text))),
+            Err(error) => Err(DigitsError::Number(error.placed(&self, text))),
         }
     }
 
@@ -302,14 +214,4 @@ impl Digits {
         }
         None
     }
-}
-
-/// Returns a parser of decimals that people type under the format, if that marks decimals.
-fn typed_parser<F: Format>(format: &F) -> Option<TypedParser<'_, F>>
-    ensures { MatchOption result (¬ (IsTypable (F.answers format.now) × MarksDecimals (F.answers format.now)))
-        (λ parser. (parser ≡ F.answers format.now)
-        × IsTypable (F.answers format.now) × MarksDecimals (F.answers format.now)) }
-{
-    let parser = TypedParser::new(format).ok()?;
-    parser.marks_decimals().then_some(parser)
 }

@@ -39,7 +39,7 @@ use Rattle.num_format_decimal.proofs.CanonicalLemmas.{last_digits-below, number-
 use Rattle.num_format_decimal.proofs.ParserLemmas.{amount_of}
 use Rattle.num_format_decimal.proofs.ScaleLemmas.{abs_le}
 use Rattle.num_format_decimal.proofs.TextLemmas.{decimal_text-fits}
-use Rattle.num_format_typed.specs.Rewriting.{EndsInDigit}
+use Rattle.num_format_typed.specs.Trimming.{EndsInDigit}
 use Rattle.num_format_typed.specs.Typed.{HasSymbols, IsPrinted, IsTypable, is_nonzero_digit, is_own, put, separator_of, typed_text}
 use Rattle.num_format_typed.proofs.DigitLemmas.{put-digit}
 use Rattle.num_format_typed.proofs.PrintedLemmas.{IsPrintedBody, typed-body, typed-signed}

@@ -15,13 +15,14 @@ use Rattle.std.proofs.lemmas.Str.{IsUtf8-append, chars-append, chars-encodes, ch
 use Rattle.std.proofs.lemmas.Str.{encode_ascii, encodes-append, encodes-chars, scalars-chars}
 use Rattle.num_format_text.specs.Format.{FormatData}
 use Rattle.num_format_typed.specs.Classes.{is_direction, is_of, is_space}
-use Rattle.num_format_typed.specs.Rewriting.{EndsInDigit, trim_end, trim_front, without_end, without_front}
+use Rattle.num_format_typed.specs.Trimming.{EndsInDigit, trim_end, trim_front, without_end, without_front}
 use Rattle.num_format_typed.specs.Typed.{IsTypable, begins_with, core_of, first_is, is_nonzero_digit, is_own}
 use Rattle.num_format_typed.specs.Typed.{put, separator_of, trimmed, typed_text}
 use Rattle.num_format_typed.specs.declared.classes.Class.{Class}
 use Rattle.num_format_typed.specs.declared.classes.Class.TheVariants.{Minus, Plus, Direction, End}
 use Rattle.num_format_typed.proofs.ClassLemmas.{of-digit}
-use Rattle.num_format_typed.proofs.DigitLemmas.{ascii, end-digit}
+use Rattle.num_format_rewriting.proofs.DigitLemmas.{ascii}
+use Rattle.num_format_typed.proofs.DigitLemmas.{end-digit}
 use Rattle.num_format_typed.proofs.RewritingLemmas.{images-own}
 
 -- what is trimmed, and what is left

@@ -6,7 +6,8 @@ use Rattle.std.specs.List.{list_all}
 use Rattle.std.specs.Str.{chars, encode_utf8_all}
 use Rattle.std.proofs.lemmas.Bool.{cases_Bool, eqb-true}
 use Rattle.std.proofs.lemmas.Str.{chars-nil, encodes-append, encodes-chars, encodes_same}
-use Rattle.num_format_typed.specs.Rewriting.{images, trim_end}
+use Rattle.num_format_rewriting.specs.Rewriting.{images}
+use Rattle.num_format_typed.specs.Trimming.{trim_end}
 
 -- one more that passes at the end
 all-push : (p : ℕ → Bool) (cs : List ℕ) (c : ℕ) → p c ≡ true → list_all p (cs ++ c ∷ []) ≡ list_all p cs

@@ -14,7 +14,7 @@ use Rattle.num_format_parsing.proofs.CommonLemmas.{of_printed}
 use Rattle.num_format_parsing.proofs.ReadingLemmas.{ucd_category}
 use Rattle.num_format_parsing.proofs.SymbolLemmas.{bare, is_bare, locale-sign, of_all}
 use Rattle.num_format_typed.specs.Classes.{is_of}
-use Rattle.num_format_typed.specs.Rewriting.{without_ends}
+use Rattle.num_format_typed.specs.Trimming.{without_ends}
 use Rattle.num_format_typed.specs.Typed.{HasSymbols, HasUsualSymbols, IsTypable, begins_with, core_of, has_shared, is_own, separator_of}
 use Rattle.num_format_typed.specs.Typed.{usual_marks, usual_separators}
 use Rattle.num_format_typed.specs.declared.classes.Class.TheVariants.{Direction, End, Plus}

@@ -1,4 +1,4 @@
 pub mod Classes
 pub mod Laws
-pub mod Rewriting
+pub mod Trimming
 pub mod Typed

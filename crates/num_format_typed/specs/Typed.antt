@@ -18,12 +18,14 @@ use Rattle.num_format_decimal.specs.FixedPoint.{FixedPoint}
 use Rattle.num_format_decimal.specs.Marks.{MarksDecimals}
 use Rattle.num_format_decimal.specs.Parsing.{DecimalResult}
 use Rattle.num_format_decimal.specs.Rounded.{CanRescale, CannotRescale, rescaled}
+use Rattle.num_format_decimal.specs.Ways.{Way, placed}
 use Rattle.num_format_decimal.specs.declared.rounding.Rounding.TheVariants.{Exact}
 use Rattle.num_format_decimal.specs.declared.buffer.TheConstants.{MAX_DECIMAL_LEN}
 use Rattle.num_format_decimal.specs.declared.parsing.ParseAtScaleError.{ParseAtScaleError}
 use Rattle.num_format_decimal.specs.declared.parsing.ParseAtScaleError.TheVariants as at_scale
+use Rattle.num_format_rewriting.specs.Rewriting.{bytes_within, images}
 use Rattle.num_format_typed.specs.Classes.{class_of, is_of}
-use Rattle.num_format_typed.specs.Rewriting.{bytes_within, images, without_ends, without_front}
+use Rattle.num_format_typed.specs.Trimming.{without_ends, without_front}
 use Rattle.num_format_typed.specs.declared.classes.Class.{Class}
 use Rattle.num_format_typed.specs.declared.classes.Class.TheVariants.{Minus, Plus, Direction, End}
 use Rattle.num_format_typed.specs.declared.error.TypedError.{TypedError}
@@ -163,11 +165,6 @@ abbrev pub place_in : FormatData → List ℕ → ℕ → ℕ
 place_in f t at =
     body_start f t + bytes_within (put (separator_of f) f.decimal) (at - length (sign_of f (trimmed t))) (chars (body_of f (trimmed t)))
 
--- an error with another place
-abbrev pub placed : (ℕ → ℕ) → StrictError → StrictError
-placed place (strict.Unexpected at) = strict.Unexpected (place at)
-placed place e = e
-
 -- what strict parsing returned, with the places of the given text
 abbrev pub map_error : {X E : Type 0} → (E → E) → Result X E → Result X (TypedError E)
 map_error place (Ok x) = Ok x
@@ -211,6 +208,33 @@ pub record TypedAtScaleResult (f : FormatData) (t : List ℕ) (scale : ℕ)
   pub parsed : Result FixedPoint (TypedError StrictError)
   pub decimal : TypedDecimalResult f t parsed
   pub at_scale : MatchResult parsed (λ d. RescaleResult d scale result) (λ e. result ≡ Err (at_any_scale e))
+
+-- parsing texts as people type them: of a whole number of a kind, of a decimal, and of a decimal of a scale
+abbrev pub typed_numbers : {X : Type 0} → Kind → (X → ℤ) → Way X (TypedError StrictError)
+typed_numbers k value = record {
+  Takes = IsTypable;
+  ambiguous = Number strict.AmbiguousFormat;
+  Returns = ParsesTyped k value;
+}
+
+abbrev pub typed_decimals : Way FixedPoint (TypedError StrictError)
+typed_decimals = record {
+  Takes = λ f. IsTypable f × MarksDecimals f;
+  ambiguous = Number strict.AmbiguousFormat;
+  Returns = TypedDecimalResult;
+}
+
+abbrev pub typed_at_scale : (scale : ℕ) → Way FixedPoint (TypedError ParseAtScaleError)
+typed_at_scale scale = record {
+  Takes = λ f. IsTypable f × MarksDecimals f;
+  ambiguous = Number (at_scale.Parse strict.AmbiguousFormat);
+  Returns = λ f t. TypedAtScaleResult f t scale;
+}
+
+-- an error of such a way with another place
+abbrev pub placed_typed : {E : Type 0} → ((ℕ → ℕ) → E → E) → (ℕ → ℕ) → TypedError E → TypedError E
+placed_typed placed place TooLong = TooLong
+placed_typed placed place (Number e) = Number (placed place e)
 
 -- the message of an error, where the causes of strict parsing have messages
 abbrev pub typed_message_of : {E : Type 0} → (E → Option (List ℕ)) → TypedError E → Option (List ℕ)

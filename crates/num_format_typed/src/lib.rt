@@ -18,12 +18,14 @@ mod classes;
 pub mod error;
 pub mod laws;
 mod rewriter;
-pub mod rewriting;
 mod symbols;
+pub mod text_parser;
+mod trimming;
 pub mod typed;
 mod utf8;
 
 pub use error::TypedError;
+pub use text_parser::{TypedAtScale, TypedDecimals};
 pub use typed::{
     TypedParser, parse_typed, parse_typed_at_scale, parse_typed_bytes, parse_typed_decimal,
     parse_typed_decimal_bytes,

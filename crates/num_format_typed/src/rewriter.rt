@@ -6,23 +6,23 @@ ghost use Rattle.std.specs.List.{list_any, starts_with};
 ghost use Rattle.num_format_decimal.specs.declared.buffer.TheConstants.{MAX_DECIMAL_LEN};
 ghost use Rattle.num_format_decimal.specs.Marks.{MarksDecimals};
 ghost use Rattle.num_format_decimal.specs.Parsing.{DecimalResult};
+ghost use Rattle.num_format_decimal.specs.Ways.{placed};
 ghost use Rattle.num_format_parsing.specs.Strict.{ParsesStrictly};
 ghost use Rattle.num_format_parsing.specs.declared.error.StrictError.TheVariants as strict;
 ghost use Rattle.num_format_typed.specs.Typed.{HasSymbols, IsPrinted, IsTypable, TypedResult, body_of, core_of};
-ghost use Rattle.num_format_typed.specs.Typed.{has_minus, is_nonzero_digit, place_in, placed, rewritten};
+ghost use Rattle.num_format_typed.specs.Typed.{has_minus, is_nonzero_digit, place_in, rewritten};
 ghost use Rattle.num_format_typed.specs.Typed.{separator_of, sign_of, unsigned};
 
 use crate::classes::Class;
 use crate::error::TypedError;
-use crate::rewriting::{
-    bytes_within, ends_in_digit, rewrite, split_first, without_end, without_ends, without_front,
-};
 use crate::symbols::{Symbols, core_of, has_usual_symbols, is_typable};
+use crate::trimming::{ends_in_digit, without_end, without_ends, without_front};
 use crate::utf8::text_of;
 use num_format_decimal::{Decimal, DecimalParser, MAX_DECIMAL_LEN};
 use num_format_int::sealed::Sealed;
 use num_format_parsing::bytes::is_prefix;
 use num_format_parsing::{FromFormattedStr, StrictError, StrictParser};
+use num_format_rewriting::{bytes_within, rewrite, split_first};
 use num_format_text::Format;
 use std::marker::Model;
 

@@ -8,14 +8,15 @@ ghost use Rattle.std.specs.Str.{chars};
 ghost use Rattle.num_format_parsing.specs.Strict.{IsUnambiguous};
 ghost use Rattle.num_format_typed.specs.Classes.{class_of, is_of};
 ghost use Rattle.num_format_typed.specs.declared.classes.Class.TheVariants.{Direction};
-ghost use Rattle.num_format_typed.specs.Rewriting.{without_ends};
+ghost use Rattle.num_format_typed.specs.Trimming.{without_ends};
 ghost use Rattle.num_format_typed.specs.Typed.{HasUsualSymbols, IsTypable, ascii_separators, begins_with, has_class};
 ghost use Rattle.num_format_typed.specs.Typed.{has_shared, is_own, is_shared_in, put, separator_of, usual_marks};
 ghost use Rattle.num_format_typed.specs.Typed.{usual_separators};
 
 use crate::classes::Class;
-use crate::rewriting::{Image, split_first, without_ends};
+use crate::trimming::without_ends;
 use num_format_parsing::symbols::{is_locale_separator, is_locale_sign};
+use num_format_rewriting::{Image, split_first};
 use num_format_text::Format;
 
 /// The symbols of a format that stand between digits.

@@ -12,7 +12,8 @@ use Rattle.num_format_decimal.specs.Parsing.{DecimalResult}
 use Rattle.num_format_decimal.specs.declared.buffer.TheConstants.{MAX_DECIMAL_LEN}
 use Rattle.num_format_parsing.specs.declared.error.StrictError.{StrictError}
 use Rattle.num_format_parsing.specs.declared.error.StrictError.TheVariants as strict
-use Rattle.num_format_typed.specs.Typed.{IsTypable, TypedDecimalResult, TypedResult, core_of, map_error, place_in, placed}
+use Rattle.num_format_decimal.specs.Ways.{placed}
+use Rattle.num_format_typed.specs.Typed.{IsTypable, TypedDecimalResult, TypedResult, core_of, map_error, place_in}
 use Rattle.num_format_typed.specs.Typed.{typed_text}
 use Rattle.num_format_typed.specs.declared.error.TypedError.{TypedError}
 use Rattle.num_format_typed.specs.declared.error.TypedError.TheVariants.{Number, TooLong}

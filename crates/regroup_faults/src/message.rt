@@ -27,7 +27,7 @@ use num_format::parsing::{FromFormattedStr, StrictError};
 use num_format::{Error, ErrorKind, Format};
 use num_format_decimal::{Decimal, DecimalBuffer, DecimalError, MAX_DECIMAL_LEN};
 use num_format_digits::{Digits, DigitsError};
-use num_format_typed::rewriting::{bytes_within, split_first};
+use num_format_rewriting::{bytes_within, split_first};
 use num_format_typed::{TypedError, parse_typed_decimal};
 use std::str;
 

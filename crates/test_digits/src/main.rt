@@ -9,6 +9,7 @@
 use num_format_decimal::{Decimal, ParseAtScaleError};
 use num_format_digits::{DigitText, Digits, DigitsError};
 use num_format_locale::Locale;
+use num_format_typed::{TypedDecimals, TypedParser};
 use std::alloc::Global;
 use std::{fmt, io, str};
 
@@ -78,9 +79,15 @@ fn parsed(alloc: Global, call: &str, arguments: &str) -> Option<String> {
     let text = str::from_utf8(bytes.as_slice()).ok()?;
     match call {
         "whole" => whole(alloc, digits.parse_strict::<i64, Locale>(text, &locale)),
-        "typed" => whole(alloc, digits.parse_typed::<i64, Locale>(text, &locale)),
+        "typed" => {
+            let parser = TypedParser::new(&locale).ok()?;
+            whole(alloc, digits.parse_by::<i64, _>(text, &parser))
+        }
         "decimal" => decimal(alloc, digits.parse_decimal(text, &locale)),
-        "typed decimal" => decimal(alloc, digits.parse_typed_decimal(text, &locale)),
+        "typed decimal" => {
+            let parser = TypedDecimals::new(&locale).ok()?;
+            decimal(alloc, digits.parse_by(text, &parser))
+        }
         "at scale" => match digits.parse_at_scale(text, scale.parse().ok()?, &locale) {
             Err(DigitsError::Number(ParseAtScaleError::Rescale(error))) => {
                 decimal(alloc, Err(DigitsError::Number(error)))

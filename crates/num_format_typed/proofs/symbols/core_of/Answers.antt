@@ -1,6 +1,6 @@
 use Rattle.std.proofs.Common.{◌∙◌, ap, sym}
 use Rattle.num_format_typed.specs.Classes.{is_of}
-use Rattle.num_format_typed.specs.Rewriting.{without_ends}
+use Rattle.num_format_typed.specs.Trimming.{without_ends}
 use Rattle.num_format_typed.specs.declared.classes.Class.TheVariants.{Direction}
 use Rattle.num_format_typed.proofs.TypableLemmas.{core-hyphen}
 use Rattle.num_format_typed.proofs.symbols.core_of.Goals as goal

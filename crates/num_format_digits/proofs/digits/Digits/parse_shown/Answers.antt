@@ -7,9 +7,9 @@ use Rattle.num_format_parsing.specs.Shapes.{HasPlainSymbols}
 use Rattle.num_format_parsing.specs.Strict.{IsUnambiguous, ParsesStrictly}
 use Rattle.num_format_parsing.proofs.CommonLemmas.{of_printed}
 use Rattle.num_format_parsing.proofs.SymbolLemmas.{plain-symbols}
+use Rattle.num_format_decimal.specs.Ways.{numbers, placed}
 use Rattle.num_format_digits.specs.Digits.{IsZero, in_digits}
-use Rattle.num_format_typed.specs.Typed.{placed}
-use Rattle.num_format_digits.specs.Parsing.{InDigits, numbers}
+use Rattle.num_format_digits.specs.Parsing.{InDigits}
 use Rattle.num_format_digits.proofs.TextLemmas.{canonical_back}
 use Rattle.num_format_digits.proofs.digits.Digits.parse_shown.Goals as goal
 
