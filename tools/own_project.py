@@ -135,7 +135,9 @@ def main():
     print(*lines, "", sep="\n")
     if not given.update:
         print(f"`rt check` in {folder}/crates/{EXAMPLE} proves these {len(lines)} crates and the example: the first time")
-        print("some 15 minutes on four processors, with 2.8 GB of memory. For decimals name num_format_decimal too.")
+        print("some 15 to 20 minutes on four processors, with 2.8 GB of memory.")
+        if "num_format_decimal" not in map(name_of, lines):
+            print("For decimals name num_format_decimal too.")
 
 
 if __name__ == "__main__":

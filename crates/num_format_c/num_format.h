@@ -62,9 +62,9 @@ typedef enum num_format_grouping {
 /* A format. Fill it by num_format_locale, num_format_lookup, num_format_custom or num_format_custom_decimal,
  * and copy it as you like.
  *
- * Each call that is given a format, but num_format_set_digits, tests it, and refuses with
+ * Each call that is given a format, but num_format_set_digits, tests it, and rejects with
  * NUM_FORMAT_BAD_FORMAT one that cannot be a format: a length above 8, a text that is not UTF-8, a number
- * of no grouping or of no digit set. A struct of zeros is refused.
+ * of no grouping or of no digit set. A struct of zeros is rejected.
  *
  * The calls that fill a struct set the bytes after each text, and those that are reserved, to zero. So the
  * formats of two filled structs have the same texts, grouping and digits exactly if memcmp finds the structs equal. */
@@ -126,7 +126,7 @@ int32_t num_format_custom_decimal(num_format *format, const char *separator, siz
  * A text in another set than "latn" is the text in 0 to 9 with the digits of the set for them, which no symbol
  * of a locale has: 1234 in "fullwide" under "en" is U+FF11, a comma, and U+FF12 to U+FF14. Texts are printed,
  * measured, parsed strictly and as people type them in each set. What parses leniently, and num_format_reads_back,
- * refuses a struct with another set than "latn" by NUM_FORMAT_BAD_FORMAT.
+ * rejects a struct with another set than "latn" by NUM_FORMAT_BAD_FORMAT.
  *
  * Errors: NUM_FORMAT_NOT_UTF8, else NUM_FORMAT_UNKNOWN_DIGITS: no set has the name, as "roman" and "Arab". */
 int32_t num_format_set_digits(num_format *format, const char *name, size_t length);
@@ -206,7 +206,7 @@ int32_t num_format_print_u128_len(const num_format *format, uint64_t low, uint64
  * of 8, 16, 32 or 64 bits, or of 128 bits, write the number, and return 0.
  *
  * Under the locale "en" the texts "-1,234" and "-1234" are -1234, and all of "1,23", "01", "-0", "+1",
- * " 1" and "12.50" are refused.
+ * " 1" and "12.50" are rejected.
  *
  * In other digits than 0 to 9, each numeric character has to be a digit of the set, and the text with 0 to 9 for these
  * is the one that is parsed. `at` counts the bytes of the text as given.
@@ -250,7 +250,7 @@ int32_t num_format_parse_strict_u128(const num_format *format, const char *text,
  * before zero; a plus sign there counts for nothing. Then each space, apostrophe, comma or point stands for the one of
  * its kind that the format has. So a text that is parsed strictly is parsed as the same number, "1 234" with the space
  * of a keyboard is 1234 under "fr", which prints U+202F, and "-5" is -5 under "sv", which prints U+2212. Nothing else
- * is mended: under "en" all of "1,23", "01", "1.234,5", "(5)", "5-" and "- 5" are refused. "1,234" is 1234 under "en",
+ * is mended: under "en" all of "1,23", "01", "1.234,5", "(5)", "5-" and "- 5" are rejected. "1,234" is 1234 under "en",
  * and as a decimal 1.234 under "de".
  *
  * Errors, in this order: NUM_FORMAT_BAD_TYPE, NUM_FORMAT_BAD_FORMAT, and
@@ -328,7 +328,7 @@ int32_t num_format_print_decimal_len(const num_format *format, uint64_t low, uin
  * halves of its units and its scale, which is the number of digits after the decimal mark, and returns 0.
  *
  * Under the locale "en" the text "1,234.50" is 123450 at scale 2, "-1234.5" is -12345 at scale 1 and
- * "7" is 7 at scale 0. All of ".5", "1.", "1,23.4", "-0.00" and "1e3" are refused.
+ * "7" is 7 at scale 0. All of ".5", "1.", "1,23.4", "-0.00" and "1e3" are rejected.
  *
  * `at` is written with NUM_FORMAT_UNEXPECTED and NUM_FORMAT_OTHER_NUMERAL alone, and the decimal with 0 alone. Each is
  * as it was with any other result.
@@ -352,7 +352,7 @@ int32_t num_format_parse_decimal(const num_format *format, const char *text, siz
 
 /* Parses a text as a person types it (no data type is meant) as a decimal: what it stands for, as by
  * num_format_parse_typed, is parsed as by num_format_parse_decimal. "1 234,50" is 123450 at scale 2 under "fr", and
- * ".5" and "5." are refused.
+ * ".5" and "5." are rejected.
  *
  * Errors, in this order: NUM_FORMAT_BAD_FORMAT; NUM_FORMAT_AMBIGUOUS_FORMAT, as by these two; NUM_FORMAT_NOT_UTF8;
  * NUM_FORMAT_OTHER_NUMERAL; NUM_FORMAT_TEXT_TOO_LONG; and those of num_format_parse_decimal of what the text stands
@@ -455,7 +455,7 @@ typedef enum num_format_parsing {
 
 /* Parses the texts in a way of num_format_parsing, writes a status for each row, and returns 0. Status k is what the
  * call for one text returns for text k and the type, and value k is written where it is 0, and else as it was. A null
- * row has status 0, and its value is as it was. A text that is refused stops nothing. The first offset may be above 0,
+ * row has status 0, and its value is as it was. A text that is rejected stops nothing. The first offset may be above 0,
  * and the last one below bytes_size.
  *
  * Statuses: 0, NUM_FORMAT_NOT_UTF8, and leniently NUM_FORMAT_NOT_A_NUMBER, or else NUM_FORMAT_UNEXPECTED,
@@ -512,7 +512,7 @@ typedef enum num_format_status {
     NUM_FORMAT_BAD_FORMAT = -1,       /* the struct has no format, or one in digits that the call does not take */
     NUM_FORMAT_TOO_SMALL = -2,        /* the array is shorter than the text */
     NUM_FORMAT_NOT_UTF8 = -3,         /* a text is not UTF-8 */
-    NUM_FORMAT_NOT_A_NUMBER = -4,     /* lenient parsing refuses the text */
+    NUM_FORMAT_NOT_A_NUMBER = -4,     /* lenient parsing rejects the text */
     NUM_FORMAT_UNKNOWN_LOCALE = -5,   /* there is no locale of the name, for the tag or at the place */
     NUM_FORMAT_TOO_LONG = -6,         /* a text of the format has more than 8 bytes */
     NUM_FORMAT_BAD_GROUPING = -7,     /* the number stands for no grouping */

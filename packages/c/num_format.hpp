@@ -286,8 +286,8 @@ struct column {
     }
 };
 
-/// The numbers of a column, and for each row 0, or as a status of num_format.h why it is refused. A row that is null or
-/// refused has 0, or std::nullopt where T is a std::optional.
+/// The numbers of a column, and for each row 0, or as a status of num_format.h why it is rejected. A row that is null or
+/// rejected has 0, or std::nullopt where T is a std::optional.
 template <class T> struct parsed_column {
     std::vector<T> values;
     std::vector<std::int32_t> statuses;
@@ -549,7 +549,7 @@ public:
         });
     }
 
-    /// The numbers of many texts. Throws what try_parse_column throws, or the exception of the first text that is refused,
+    /// The numbers of many texts. Throws what try_parse_column throws, or the exception of the first text that is rejected,
     /// which has its row.
     template <class T = std::int64_t>
     std::vector<T> parse_column(const column &texts, num_format_parsing way = NUM_FORMAT_STRICT) const {
@@ -559,7 +559,7 @@ public:
     }
 
     /// The units of many texts. Throws what try_parse_decimal_column throws, or the exception of the first text that is
-    /// refused, which has its row.
+    /// rejected, which has its row.
     template <class T = std::int64_t>
     std::vector<T> parse_decimal_column(const column &texts, std::uint32_t scale,
                                         num_format_parsing way = NUM_FORMAT_STRICT) const {
@@ -632,7 +632,7 @@ private:
         return made;
     }
 
-    /// The values of a column. Throws the exception of its first row that is refused, with the place in its text.
+    /// The values of a column. Throws the exception of its first row that is rejected, with the place in its text.
     template <class T, class Place> static std::vector<T> accepted(parsed_column<T> found, const column &texts, Place place) {
         for (std::size_t k = 0; k < found.statuses.size(); k++)
             if (found.statuses[k] == NUM_FORMAT_UNEXPECTED || found.statuses[k] == NUM_FORMAT_OTHER_NUMERAL)
@@ -648,7 +648,7 @@ private:
 
 #ifdef __cpp_lib_format
 /// A text as an argument of std::format, with the fill, side and width of a string. A precision, by which a string is cut, is
-/// refused.
+/// rejected.
 template <> struct std::formatter<numfmt::text> : std::formatter<std::string_view> {
     constexpr auto parse(std::format_parse_context &context) {
         auto at = context.begin();

@@ -58,8 +58,9 @@ Depends: libc6 (>= 2.{{glibc}})
 Installed-Size: {{size}}
 Description: whole numbers and decimals with separators between groups of digits
  The programs regroup and regroup-lines, and the library for C and C++, shared and
- static. Each function is proved but those in headers. It needs a processor of
- level x86-64-v2.
+ static. Proved is what the library's calls return and write, what regroup writes,
+ and what regroup-lines writes of lines. Only tested are headers, and its command
+ line and sums. It needs a processor of level x86-64-v2.
 """
 
 
@@ -111,7 +112,7 @@ def make_tarball(built, folder, made, time):
     top = made / NAME
     install(built, top)
     text = (HERE / "tarball.md").read_text(encoding="utf-8")
-    needed = f"glibc 2.{glibc(top / 'bin')} or later, of which the library needs 2.{glibc(top / 'lib')};"
+    needed = f"glibc 2.{glibc(top / 'bin')} or later for the programs, 2.{glibc(top / 'lib')} for the library;"
     write(top / "README.md", text.replace("glibc;", needed))
     shutil.copy(ROOT / "NOTICE", top)
     add_documents(top, programs())

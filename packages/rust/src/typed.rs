@@ -127,9 +127,9 @@ pub enum TypedError<E> {
     /// With the characters of the format in it, the text has more bytes than the text of any number.
     TooLong,
     /// The cause of strict parsing, which `AmbiguousFormat` is also where a separator that is printed and the mark have
-    /// two unlike spaces, apostrophes, commas or points, as `'` and U+2019, or the minus sign has one of their kinds,
-    /// begins with a space or a plus sign, or has only marks of the direction of writing. A position counts the bytes
-    /// of the text that was given.
+    /// two unlike spaces, apostrophes, commas or points, as `'` and U+2019, or the minus sign has one of the kinds that
+    /// these two have. Also where the minus sign, without marks of the direction of writing at its ends, is empty or
+    /// begins with a blank, a line end or a plus sign. A position counts the bytes of the text that was given.
     Number(E),
 }
 

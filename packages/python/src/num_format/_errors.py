@@ -34,8 +34,9 @@ class Cause(enum.IntEnum):
         AMBIGUOUS_FORMAT: A text can be misread under the format: the minus sign is empty, or it or a separator that is
             printed has a numeric character. For decimals, also where the decimal mark is empty, has one, or is such a
             separator. For texts as people type them, also where that separator and the mark have two unlike spaces,
-            apostrophes, commas or points, as ' and U+2019, or the minus sign has one of their kinds, begins with a
-            space or a plus sign, or has only marks of the direction of writing.
+            apostrophes, commas or points, as ' and U+2019, or the minus sign has one of the kinds that these two have.
+            Also where it, without marks of the direction of writing at its ends, is empty or begins with a blank, a
+            line end or a plus sign.
         TEXT_TOO_LONG: A text as a person types it, or one in a digit set, is longer than that of any number.
         UNKNOWN_DIGITS: No digit set has the name, as one after ``-u-nu-`` in a language tag.
         OTHER_NUMERAL: A numeric character is no digit of the format's set, as 3 among Arabic-Indic digits. The error
