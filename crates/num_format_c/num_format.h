@@ -99,7 +99,7 @@ int32_t num_format_locale(num_format *format, const char *name, size_t length);
  * the tag counts up to "-x-".
  *
  * Errors: NUM_FORMAT_NOT_UTF8, else NUM_FORMAT_UNKNOWN_LOCALE: no name is left, as of "english", else
- * NUM_FORMAT_UNKNOWN_DIGITS, as of "zh-u-nu-traditio" and "zh-u-nu-finance". */
+ * NUM_FORMAT_UNKNOWN_DIGITS, as of "zh-u-nu-traditio" and "zh-u-nu-finance", and of "de-u-nu", which names none. */
 int32_t num_format_lookup(num_format *format, const char *tag, size_t length);
 
 /* The same for a name and a tag that end at a zero byte. A null pointer, as getenv returns one, is
@@ -256,9 +256,9 @@ int32_t num_format_parse_strict_u128(const num_format *format, const char *text,
  * Errors, in this order: NUM_FORMAT_BAD_TYPE, NUM_FORMAT_BAD_FORMAT, and
  * - NUM_FORMAT_BAD_LENGTH: value_size is not the size of the type.
  * - NUM_FORMAT_AMBIGUOUS_FORMAT: as by num_format_parse_strict_i64; or the decimal mark and a separator that is printed
- *   have two unlike spaces, apostrophes, commas or points, as "'" and U+2019, or the minus sign has one of their kinds,
- *   or without marks of the direction of writing at its ends is empty or begins with a blank, a line end or a plus
- *   sign. This holds for no locale.
+ *   have two unlike spaces, apostrophes, commas or points, as "'" and U+2019; or the minus sign has one of the kinds
+ *   that these two have, or without marks of the direction of writing at its ends is empty or begins with a blank, a
+ *   line end or a plus sign. This holds for no locale.
  * - NUM_FORMAT_NOT_UTF8.
  * - In other digits than 0 to 9 NUM_FORMAT_OTHER_NUMERAL or NUM_FORMAT_TEXT_TOO_LONG, as num_format_parse_strict_i64.
  * - NUM_FORMAT_TEXT_TOO_LONG: the text that it stands for has more than NUM_FORMAT_DECIMAL_MAX bytes.

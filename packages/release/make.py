@@ -243,9 +243,13 @@ def make_postgresql(built, folder, made, time):
 
 
 def main():
-    if len(sys.argv) not in (2, 5):
+    words = sys.argv[1:]
+    if words in (["--help"], ["-h"]):
+        print(__doc__, end="")
+        return
+    if len(words) not in (1, 4) or words[0].startswith("-"):
         sys.exit("usage: tools/release FOLDER [LIBRARY REGROUP REGROUP_LINES]")
-    folder, *built = [Path(word).resolve() for word in sys.argv[1:]]
+    folder, *built = [Path(word).resolve() for word in words]
     if not built and not all(file.is_file() for file in BUILT):
         # It says what is missing.
         if subprocess.run([ROOT / "tools" / "build"], check=False).returncode:

@@ -338,6 +338,7 @@ static void check_digits(void) {
         compare(tag, num_format_set_digits(&format, refused[i], strlen(refused[i])), -22);
     }
     CHECK(num_format_lookup_str(&format, "english-u-nu-roman"), -5);
+    CHECK(num_format_lookup_str(&format, "de-u-nu"), -22);
     CHECK(num_format_set_digits(&format, "Arab", 4), -22);
     CHECK(num_format_set_digits(&format, "arab\xff", 5), -3);
     CHECK(num_format_set_digits(&format, NULL, 0), -22);

@@ -200,6 +200,10 @@ def test_arrays_that_are_refused():
     bad = Produced(b"u", [None, held(np.array([0, 5, 2], dtype=np.int32).tobytes()), held(b"12345")], 2)
     with pytest.raises(ValueError):
         columns.StringColumn.from_arrow(bad)
+    for length, offset in [(-1, 0), (1, -1)]:
+        negative = Produced(b"u", [None, held(bytes(8)), held(b"")], length, offset)
+        with pytest.raises(ValueError, match="below 0"):
+            columns.StringColumn.from_arrow(negative)
     with pytest.raises(TypeError, match="__arrow_c_array__"):
         columns.StringColumn.from_arrow(["1"])
     dictionary = Produced(b"i", [None, held(bytes(4))], 1)

@@ -394,6 +394,8 @@ def test_pandas():
     assert columns.to_pandas(expected).equals(texts)
     decimals = columns.to_pandas(columns.parse_decimal_column(["1.5", None], 2, "en", object))
     assert decimals.dtype == object and decimals.tolist() == [Decimal("1.50"), None]
+    with pytest.raises(TypeError, match="WIDE.*`object`"):
+        columns.to_pandas(columns.parse_decimal_column(["1"], 0, "en", columns.WIDE))
     for given in [pandas.Series([1.5]), pandas.array([1.5, None]), pandas.array([True, None]), pandas.Series(["1"])]:
         with pytest.raises(TypeError):
             columns.format_column(given, "de")

@@ -202,10 +202,10 @@ impl RawFormat {
     /// Returns what decimals need of a format.
     #[inline]
     pub(crate) fn with_decimal_mark<F: Format>(format: &F) -> RawFormat {
-        format.raw().unwrap_or_else(|| RawFormat {
-            decimal_mark: padded(format.decimal().into_str()),
-            decimal_mark_length: format.decimal().into_str().len() as u8,
-            ..RawFormat::of(format)
+        format.raw().unwrap_or_else(|| {
+            let separator = format.separator().into_str();
+            let minus_sign = format.minus_sign().into_str();
+            RawFormat::new(separator, format.grouping(), minus_sign, format.decimal().into_str())
         })
     }
 

@@ -1,6 +1,9 @@
 //! Formats: the builder, its errors, and formats of one's own. `replay.rs` has what builders return, and which print
 //! alike.
 
+use std::cell::Cell;
+
+use num_format::parsing::parse_typed;
 use num_format::utils::{DecimalStr, InfinityStr, MinusSignStr, NanStr, PlusSignStr, SeparatorStr};
 use num_format::{
     Buffer, CustomFormat, CustomFormatBuilder, Decimal, DecimalBuffer, Error, ErrorKind, Format, Grouping, Locale,
@@ -90,14 +93,18 @@ fn debug_shows_the_fields_of_num_format() {
     );
 }
 
-/// A format of one's own, of whose texts those that are not needed are never asked for.
+/// A format of one's own. Texts that are not needed are never asked for, and the decimal mark once at most.
 struct Dotted {
-    mark: Option<&'static str>,
+    mark: Cell<Option<&'static str>>,
+}
+
+fn dotted(mark: Option<&'static str>) -> Dotted {
+    Dotted { mark: Cell::new(mark) }
 }
 
 impl Format for Dotted {
     fn decimal(&self) -> DecimalStr<'_> {
-        DecimalStr::new(self.mark.unwrap()).unwrap()
+        DecimalStr::new(self.mark.take().unwrap()).unwrap()
     }
 
     fn grouping(&self) -> Grouping {
@@ -128,11 +135,12 @@ impl Format for Dotted {
 #[test]
 fn formats_of_ones_own() {
     let mut buffer = Buffer::new();
-    buffer.write_formatted(&-1_234_567, &Dotted { mark: None });
+    buffer.write_formatted(&-1_234_567, &dotted(None));
     assert_eq!(buffer.as_str(), "minus 1·234·567");
-    let (price, marked) = (Decimal::new(-123_450, 2).unwrap(), Dotted { mark: Some("::") });
+    let price = Decimal::new(-123_450, 2).unwrap();
     let mut buffer = DecimalBuffer::new();
-    buffer.write_formatted(&price, &marked);
+    buffer.write_formatted(&price, &dotted(Some("::")));
     assert_eq!(buffer.as_str(), "minus 1·234::50");
-    assert_eq!(buffer.parse_decimal(&marked), Ok(price));
+    assert_eq!(buffer.parse_decimal(&dotted(Some("::"))), Ok(price));
+    assert_eq!(parse_typed(" -5", &dotted(Some("é"))), Ok(-5));
 }

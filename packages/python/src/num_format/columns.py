@@ -188,7 +188,7 @@ class StringColumn(Sequence["str | None"]):
 
         Raises:
             TypeError: It has no such method, or is of another type.
-            ValueError: The offsets are not as they have to be.
+            ValueError: The offsets are not as they have to be, or the length or the first row is below 0.
         """
         column = _from_arrow(array)
         if not isinstance(column, StringColumn):
@@ -571,7 +571,8 @@ def to_pandas(column: StringColumn | npt.NDArray[Any]) -> Any:
     """Returns a pandas array of what a call here returns, which can be assigned to a column of a frame.
 
     Texts are of pandas' dtype ``string``, numbers of its ``Int64`` and the like, and what is null or masked is
-    ``pandas.NA``. An array of objects, as of ``Decimal``, stays one, with None there.
+    ``pandas.NA``. An array of objects, as of ``Decimal``, stays one, with None there. pandas has no dtype for units of
+    `WIDE`: parse decimals with the dtype ``object``.
 
     >>> import pandas
     >>> from num_format.columns import format_column, parse_column, to_pandas
@@ -580,6 +581,9 @@ def to_pandas(column: StringColumn | npt.NDArray[Any]) -> Any:
     >>> frame["fr"] = to_pandas(format_column(frame["n"], "fr"))
     >>> frame.isna()["n"].tolist(), str(frame["n"].dtype), str(frame["fr"].dtype)
     ([False, True], 'Int64', 'string')
+
+    Raises:
+        TypeError: The array is of `WIDE`.
     """
     import pandas  # type: ignore[import]
 
@@ -587,6 +591,8 @@ def to_pandas(column: StringColumn | npt.NDArray[Any]) -> Any:
         return pandas.array(column.to_object(), dtype="string")
     if column.dtype == object:
         return np.array(column.tolist(), dtype=object)
+    if column.dtype == WIDE:
+        raise TypeError("pandas has no dtype for units of WIDE: parse with the dtype `object`")
     return pandas.arrays.IntegerArray(np.ma.getdata(column), np.ma.getmaskarray(column))
 
 
@@ -652,6 +658,8 @@ def _from_arrow(given: Any) -> StringColumn | tuple[npt.NDArray[Any], npt.NDArra
     owner, kind, count, start, nulls, (bits, first, second) = _native.import_array(*given.__arrow_c_array__())
     if kind not in _ARROW and kind not in _ARROW_OFFSETS:
         raise TypeError(f"an Arrow array of texts or integers is needed, not one of type {kind!r}")
+    if count < 0 or start < 0:
+        raise ValueError(f"the Arrow array has {count} rows from {start} on: neither may be below 0")
     valid = None
     if bits and nulls:
         valid = _bits_from(_Memory(owner, bits, (start + count + 7) // 8).array(np.uint8), start, count)
