@@ -242,6 +242,23 @@ def test_bad_offsets(offsets):
         columns.parse_column(column, "en")
 
 
+def test_lists_of_offsets_that_were_changed():
+    """They are as slices of the bytes are, whatever the offsets are."""
+    for offsets, texts in [
+        ([0, 3, 1, 4], ["123", "", "234"]),
+        ([0, 1, 9, 4], ["1", "234", ""]),
+        ([0, 2, 3, 2**31 - 1], ["12", "3", "4"]),
+        ([2, 1, 3, 4], ["3", "", "4"]),
+        ([2**31 - 1, 0, 1, 3], ["", "", ""]),
+    ]:
+        column = columns.StringColumn.from_strings(["1", "23", "4"])
+        column.offsets[:] = offsets
+        assert column.tolist() == texts, offsets
+    column = columns.StringColumn.from_strings(["1", None, "4"])
+    column.offsets[:] = [0, 2, 1, 2]
+    assert column.tolist() == ["14", None, "4"]
+
+
 def test_wrong_offsets():
     with pytest.raises(ValueError):
         columns.StringColumn(np.array([], dtype=np.int32), b"")

@@ -88,6 +88,9 @@ _REASONS = {
     Cause.OTHER_NUMERAL: "numeral of another digit set",
 }
 
+# Each cause by its status.
+CAUSES = {cause.value: cause for cause in Cause}
+
 # The causes that are at a place in a text.
 PLACED = Cause.UNEXPECTED, Cause.OTHER_NUMERAL
 
@@ -146,8 +149,10 @@ class ParseError(NumFormatError):
         row: int | None = None,
         strictly: tuple[bytes, bool] | None = None,
     ) -> None:
-        super().__init__(text, cause)
+        # NumFormatError's is not called, which takes as long as all of this.
         self.args = text, cause, at, row
+        self.text = text
+        self.cause = cause
         self.at = at
         self.row = row
         # The bytes of the format under which it was parsed strictly, and whether as a whole number.

@@ -141,7 +141,7 @@ class Format:
         """
         if not isinstance(name, str):
             raise TypeError(f"the name must be a str, not {type(name).__name__}")
-        return _locale(name)
+        return locale_format(name)
 
     @property
     def separator(self) -> str:
@@ -233,7 +233,7 @@ def _from_parts(
 
 
 @functools.lru_cache(maxsize=1024)
-def _locale(name: str) -> Format:
+def locale_format(name: str) -> Format:
     """Returns the format of a locale. A name is the tag for which it is found itself. What is raised is not kept."""
     _length("locale", name)
     found = _native.locale(_preferred(name))
@@ -250,7 +250,7 @@ def to_format(format: Format | str) -> Format:
         return format
     if not isinstance(format, str):
         raise TypeError(f"the format must be a Format or a str, not {type(format).__name__}")
-    return _locale(format)
+    return locale_format(format)
 
 
 @functools.cache

@@ -5,6 +5,9 @@
  * returns a pair of the status and the position. Arrays are passed by their addresses and sizes, as NumPy has them, and
  * whoever passes them keeps them alive: such calls release the GIL.
  *
+ * The public functions for one number are here too, for what most calls pass: a Format or the name of a locale, and an
+ * int, a Decimal or a text. For all else they call those of _numbers.py, in whose place `quick` puts them.
+ *
  * Columns are given to others and taken from them by Arrow's C data interface, in capsules:
  * https://arrow.apache.org/docs/format/CDataInterface/PyCapsuleInterface.html
  */
@@ -178,27 +181,37 @@ static PyObject *from_halves(uint64_t low, uint64_t high, int is_signed) {
     return number;
 }
 
-CALL(print_int) {
-    TAKES(2);
-    const num_format *format = format_of(args[0]);
+static PyObject *int_text(const num_format *format, PyObject *given) {
     char text[NUM_FORMAT_DIGITS_MAX];
     int overflow;
-    if (!format)
-        return NULL;
-    long long number = PyLong_AsLongLongAndOverflow(args[1], &overflow);
+    long long number = PyLong_AsLongLongAndOverflow(given, &overflow);
     if (number == -1 && PyErr_Occurred())
         return NULL;
     if (!overflow)
         return text_of(text, num_format_print_i64(format, number, text, sizeof text));
     uint64_t low, high;
-    int is_signed = take_halves(args[1], &low, &high);
+    int is_signed = take_halves(given, &low, &high);
     if (is_signed < 0)
         return NULL;
     return text_of(text, is_signed ? num_format_print_i128(format, low, high, text, sizeof text)
                                    : num_format_print_u128(format, low, high, text, sizeof text));
 }
 
-static PyObject *refusal(int32_t status, size_t at) { return Py_BuildValue("in", (int)status, (Py_ssize_t)at); }
+CALL(print_int) {
+    TAKES(2);
+    const num_format *format = format_of(args[0]);
+    return format ? int_text(format, args[1]) : NULL;
+}
+
+/* What the library says of a text: 0, or why it is refused, and where. */
+typedef struct {
+    int32_t status;
+    size_t at;
+} verdict;
+
+static PyObject *made_or_pair(PyObject *made, verdict said) {
+    return said.status < 0 ? Py_BuildValue("in", (int)said.status, (Py_ssize_t)said.at) : made;
+}
 
 /* Parses a text as a number of 64 bits, or of 128 with a sign or without, in a way of num_format_parsing. */
 static int32_t parse_64(const num_format *format, long way, const char *text, size_t length, int64_t *number,
@@ -225,33 +238,38 @@ static int32_t parse_128(const num_format *format, long way, int is_signed, cons
     }
 }
 
-static PyObject *parse_wide(const num_format *format, long way, const char *text, size_t length) {
+static PyObject *wide_int_of(const num_format *format, long way, const char *text, size_t length, verdict *said) {
     uint64_t halves[2];
-    size_t at = 0;
-    int32_t status = parse_128(format, way, 1, text, length, halves, &at);
-    if (status == 0)
-        return from_halves(halves[0], halves[1], 1);
-    status = parse_128(format, way, 0, text, length, halves, &at);
-    return status == 0 ? from_halves(halves[0], halves[1], 0) : refusal(status, at);
+    for (int is_signed = 1; is_signed >= 0; is_signed--) {
+        said->status = parse_128(format, way, is_signed, text, length, halves, &said->at);
+        if (said->status == 0)
+            return from_halves(halves[0], halves[1], is_signed);
+    }
+    return NULL;
+}
+
+/* Returns the number of a text, or NULL, with an exception or where it is refused. */
+static PyObject *int_of(const num_format *format, PyObject *given, long way, verdict *said) {
+    Py_ssize_t length;
+    const char *text = utf8_of(given, &length);
+    int64_t number;
+    if (!text)
+        return NULL;
+    said->status = parse_64(format, way, text, length, &number, &said->at);
+    if (said->status == 0)
+        return PyLong_FromLongLong(number);
+    // One of 64 bits is refused, and one of 128 may be not.
+    if (said->status == NUM_FORMAT_OUT_OF_RANGE || said->status == NUM_FORMAT_NOT_A_NUMBER)
+        return wide_int_of(format, way, text, length, said);
+    return NULL;
 }
 
 CALL(parse_int) {
     TAKES(3);
     const num_format *format = format_of(args[0]);
-    Py_ssize_t length;
-    const char *text = format ? utf8_of(args[1], &length) : NULL;
-    long way = text ? PyLong_AsLong(args[2]) : -1;
-    if (way < 0)
-        return NULL;
-    int64_t number;
-    size_t at = 0;
-    int32_t status = parse_64(format, way, text, length, &number, &at);
-    if (status == 0)
-        return PyLong_FromLongLong(number);
-    // One of 64 bits is refused, and one of 128 may be not.
-    if (status == NUM_FORMAT_OUT_OF_RANGE || status == NUM_FORMAT_NOT_A_NUMBER)
-        return parse_wide(format, way, text, length);
-    return refusal(status, at);
+    long way = format ? PyLong_AsLong(args[2]) : -1;
+    verdict said = {0, 0};
+    return way < 0 ? NULL : made_or_pair(int_of(format, args[1], way, &said), said);
 }
 
 /* ---- Decimals ---- */
@@ -322,19 +340,23 @@ static PyObject *plain_of(wide units, int scale) {
     return PyUnicode_FromStringAndSize(start, end - start);
 }
 
+/* Returns the text of a decimal that Python wrote, or NULL, with an exception or where take_plain does not take it. */
+static PyObject *decimal_text(const num_format *format, PyObject *given) {
+    char text[NUM_FORMAT_DIGITS_MAX];
+    Py_ssize_t length;
+    const char *plain = utf8_of(given, &length);
+    decimal taken;
+    if (!plain || !take_plain(plain, length, &taken))
+        return NULL;
+    return text_of(text, num_format_print_decimal(format, (uint64_t)taken.units, (uint64_t)(taken.units >> 64),
+                                                  (uint32_t)taken.scale, text, sizeof text));
+}
+
 CALL(print_plain) {
     TAKES(2);
     const num_format *format = format_of(args[0]);
-    char text[NUM_FORMAT_DIGITS_MAX];
-    Py_ssize_t length;
-    const char *plain = format ? utf8_of(args[1], &length) : NULL;
-    decimal taken;
-    if (!plain)
-        return NULL;
-    if (!take_plain(plain, length, &taken))
-        Py_RETURN_NONE;
-    return text_of(text, num_format_print_decimal(format, (uint64_t)taken.units, (uint64_t)(taken.units >> 64),
-                                                  (uint32_t)taken.scale, text, sizeof text));
+    PyObject *text = format ? decimal_text(format, args[1]) : NULL;
+    return text || PyErr_Occurred() ? text : Py_NewRef(Py_None);
 }
 
 CALL(print_units) {
@@ -348,25 +370,51 @@ CALL(print_units) {
     return text_of(text, num_format_print_decimal(format, low, high, (uint32_t)scale, text, sizeof text));
 }
 
+/* Returns a text that was parsed, in the digits 0 to 9, as Python writes the decimal. */
+static PyObject *plain_of_text(const char *text, Py_ssize_t length, int scale, int is_negative) {
+    char plain[NUM_FORMAT_DECIMAL_MAX + 3], *end = plain;
+    if (is_negative)
+        *end++ = '-';
+    for (Py_ssize_t k = 0; k < length; k++) {
+        *end = text[k];
+        end += text[k] >= '0' && text[k] <= '9';
+    }
+    if (scale > 0) {
+        memmove(end - scale + 1, end - scale, scale);
+        end[-scale] = '.';
+        end++;
+    }
+    return PyUnicode_FromStringAndSize(plain, end - plain);
+}
+
+/* Returns what `make` returns for the decimal of a text, or NULL, with an exception or where it is refused. */
+static PyObject *decimal_of(const num_format *format, PyObject *given, PyObject *make, long way, verdict *said) {
+    Py_ssize_t length;
+    const char *text = utf8_of(given, &length);
+    uint64_t low, high;
+    uint32_t scale;
+    if (!text)
+        return NULL;
+    said->status = (way == NUM_FORMAT_TYPED ? num_format_parse_typed_decimal : num_format_parse_decimal)(
+        format, text, length, &low, &high, &scale, &said->at);
+    if (said->status < 0)
+        return NULL;
+    // The digits of a text are those of its number.
+    int has_digits = format->digits == 0 && length <= NUM_FORMAT_DECIMAL_MAX;
+    PyObject *plain = has_digits ? plain_of_text(text, length, (int)scale, (high >> 63) != 0)
+                                 : plain_of((wide)high << 64 | low, (int)scale);
+    PyObject *passed = plain ? PyTuple_Pack(1, plain) : NULL;
+    PyObject *made = passed ? PyObject_Call(make, passed, NULL) : NULL;
+    Py_XDECREF(plain), Py_XDECREF(passed);
+    return made;
+}
+
 CALL(parse_decimal) {
     TAKES(4);
     const num_format *format = format_of(args[0]);
-    Py_ssize_t length;
-    const char *text = format ? utf8_of(args[1], &length) : NULL;
-    uint64_t low, high;
-    uint32_t scale;
-    size_t at = 0;
-    long way = text ? PyLong_AsLong(args[3]) : -1;
-    if (way < 0)
-        return NULL;
-    int32_t status = (way == NUM_FORMAT_TYPED ? num_format_parse_typed_decimal : num_format_parse_decimal)(
-        format, text, length, &low, &high, &scale, &at);
-    if (status < 0)
-        return refusal(status, at);
-    PyObject *plain = plain_of((wide)high << 64 | low, (int)scale);
-    PyObject *made = plain ? PyObject_CallFunctionObjArgs(args[2], plain, NULL) : NULL;
-    Py_XDECREF(plain);
-    return made;
+    long way = format ? PyLong_AsLong(args[3]) : -1;
+    verdict said = {0, 0};
+    return way < 0 ? NULL : made_or_pair(decimal_of(format, args[1], args[2], way, &said), said);
 }
 
 CALL(take_units) {
@@ -408,7 +456,177 @@ CALL(plains) {
     return texts;
 }
 
+/* ---- The public functions for one number ---- */
+
+/* What the module keeps for them: what `know` is passed, and the functions that they call for all else. */
+enum { FORMAT, BYTES, LOCALE, DECIMAL, EXACT, ROUNDED, REFUSAL, FORMAT_ANY, PARSE_ANY, PARSE_DECIMAL_ANY, KNOWN };
+
+#define QUICK(name) \
+    static PyObject *quick_##name(PyObject *module, PyObject *const *args, Py_ssize_t count, PyObject *names)
+
+static int is_named(PyObject *name, const char *wanted) { return PyUnicode_CompareWithASCIIString(name, wanted) == 0; }
+
+/* Returns the name of the one argument that has one, or NULL. */
+static PyObject *one_name(PyObject *names) {
+    return names && PyTuple_Size(names) == 1 ? PyTuple_GetItem(names, 0) : NULL;
+}
+
+/* Returns the way to parse that is asked for, or -1 for other arguments than a number or a text, a format, which may be
+ * named, and `typed` if it is True. */
+static long way_of(PyObject *const *args, Py_ssize_t count, PyObject *names) {
+    PyObject *name = one_name(names);
+    if (names ? name && count == 1 && is_named(name, "format") : count == 2)
+        return NUM_FORMAT_STRICT;
+    return name && count == 2 && args[2] == Py_True && is_named(name, "typed") ? NUM_FORMAT_TYPED : -1;
+}
+
+/* Takes the struct of a Format or of a locale's name, the second argument. Returns whether it did, or -1 with an
+ * exception. */
+static int take_format(PyObject *const *known, PyObject *const *args, num_format *format) {
+    int is_name = PyUnicode_CheckExact(args[1]);
+    if (!is_name && !Py_IS_TYPE(args[1], (PyTypeObject *)known[FORMAT]))
+        return 0;
+    PyObject *form = is_name ? PyObject_CallFunctionObjArgs(known[LOCALE], args[1], NULL) : Py_NewRef(args[1]);
+    PyObject *bytes = form ? PyObject_GetAttr(form, known[BYTES]) : NULL;
+    const num_format *found = bytes ? format_of(bytes) : NULL;
+    if (found)
+        *format = *found;
+    Py_XDECREF(form), Py_XDECREF(bytes);
+    return found ? 1 : -1;
+}
+
+/* Calls a Python function with the same arguments. */
+static PyObject *call_any(PyObject *function, PyObject *const *args, Py_ssize_t count, PyObject *names) {
+    PyObject *given = PyTuple_New(count), *named = names ? PyDict_New() : NULL;
+    int failed = !given || (names && !named);
+    for (Py_ssize_t k = 0; !failed && k < count; k++)
+        failed = PyTuple_SetItem(given, k, Py_NewRef(args[k]));
+    for (Py_ssize_t k = 0; !failed && names && k < PyTuple_Size(names); k++)
+        failed = PyDict_SetItem(named, PyTuple_GetItem(names, k), args[count + k]);
+    PyObject *made = failed ? NULL : PyObject_Call(function, given, named);
+    Py_XDECREF(given), Py_XDECREF(named);
+    return made;
+}
+
+/* Raises the error of a text that is refused. */
+static PyObject *refuse(PyObject *const *known, PyObject *const *args, const num_format *format, long way,
+                        verdict said, int is_whole) {
+    PyObject *strictly = way == NUM_FORMAT_STRICT ? Py_BuildValue("y#O", format, (Py_ssize_t)sizeof *format,
+                                                                  is_whole ? Py_True : Py_False)
+                                                  : Py_NewRef(Py_None);
+    PyObject *error = PyObject_CallFunction(known[REFUSAL], "OOinN", args[0], args[1], (int)said.status,
+                                            (Py_ssize_t)said.at, strictly);
+    if (error)
+        PyErr_SetObject((PyObject *)Py_TYPE(error), error);
+    Py_XDECREF(error);
+    return NULL;
+}
+
+QUICK(format) {
+    PyObject *const *known = PyModule_GetState(module);
+    PyObject *text = NULL;
+    num_format format;
+    int taken = way_of(args, count, names) == NUM_FORMAT_STRICT ? take_format(known, args, &format) : 0;
+    if (taken > 0 && PyLong_CheckExact(args[0]))
+        return int_text(&format, args[0]);
+    if (taken > 0 && Py_IS_TYPE(args[0], (PyTypeObject *)known[DECIMAL])) {
+        PyObject *plain = PyObject_Str(args[0]);
+        text = plain ? decimal_text(&format, plain) : NULL;
+        Py_XDECREF(plain);
+    }
+    if (text || PyErr_Occurred())
+        return text;
+    PyObject *name = one_name(names);
+    if (name && count == 2 && is_named(name, "decimals") && args[2] != Py_None)
+        return PyObject_CallFunctionObjArgs(known[ROUNDED], args[0], args[1], args[2], NULL);
+    return call_any(known[FORMAT_ANY], args, count, names);
+}
+
+/* Parses a text as an int, or else as a decimal. */
+static PyObject *parse_quickly(PyObject *module, PyObject *const *args, Py_ssize_t count, PyObject *names,
+                               int is_whole) {
+    PyObject *const *known = PyModule_GetState(module);
+    long way = way_of(args, count, names);
+    num_format format;
+    verdict said = {0, 0};
+    int taken = way < 0 ? 0 : take_format(known, args, &format);
+    if (taken == 0)
+        return call_any(known[is_whole ? PARSE_ANY : PARSE_DECIMAL_ANY], args, count, names);
+    if (taken < 0)
+        return NULL;
+    PyObject *made = is_whole ? int_of(&format, args[0], way, &said)
+                              : decimal_of(&format, args[0], known[EXACT], way, &said);
+    return said.status < 0 ? refuse(known, args, &format, way, said, is_whole) : made;
+}
+
+QUICK(parse) { return parse_quickly(module, args, count, names, 1); }
+
+QUICK(parse_decimal) { return parse_quickly(module, args, count, names, 0); }
+
+#define QUICK_METHOD(name) {#name, (PyCFunction)(void (*)(void))quick_##name, METH_FASTCALL | METH_KEYWORDS, NULL}
+
+/* In the order of the functions that they call. */
+static PyMethodDef quick_methods[KNOWN - FORMAT_ANY] = {
+    QUICK_METHOD(format), QUICK_METHOD(parse), QUICK_METHOD(parse_decimal)};
+
+CALL(quick) {
+    TAKES(3);
+    PyMethodDef *method = quick_methods;
+    PyObject **function = (PyObject **)PyModule_GetState(module) + FORMAT_ANY;
+    for (; !is_named(args[0], method->ml_name); method++, function++)
+        if (method + 1 == quick_methods + KNOWN - FORMAT_ANY)
+            return PyErr_Format(PyExc_NameError, "no function is called %R", args[0]);
+    // It is there as long as the method, which all interpreters of a process have.
+    const char *doc = PyUnicode_AsUTF8AndSize(args[2], NULL);
+    if (!doc || (!method->ml_doc && !(method->ml_doc = strdup(doc))))
+        return PyErr_Occurred() ? NULL : PyErr_NoMemory();
+    Py_XDECREF(*function);
+    *function = Py_NewRef(args[1]);
+    return PyCFunction_NewEx(method, module, NULL);
+}
+
+CALL(know) {
+    TAKES(FORMAT_ANY);
+    PyObject **known = PyModule_GetState(module);
+    for (int k = 0; k < FORMAT_ANY; k++) {
+        Py_XDECREF(known[k]);
+        known[k] = Py_NewRef(args[k]);
+    }
+    Py_RETURN_NONE;
+}
+
+static int visit_known(PyObject *module, visitproc visit, void *arg) {
+    PyObject **known = PyModule_GetState(module);
+    for (int k = 0; k < KNOWN; k++)
+        Py_VISIT(known[k]);
+    return 0;
+}
+
+static int clear_known(PyObject *module) {
+    PyObject **known = PyModule_GetState(module);
+    for (int k = 0; k < KNOWN; k++)
+        Py_CLEAR(known[k]);
+    return 0;
+}
+
+static void free_known(void *module) { clear_known(module); }
+
 /* ---- Columns: `scale` is below 0 for a column of integers ---- */
+
+CALL(texts) {
+    TAKES(4);
+    const int64_t *offsets = PyLong_AsVoidPtr(args[0]);
+    const char *bytes = PyLong_AsVoidPtr(args[1]), *valid = PyLong_AsVoidPtr(args[2]);
+    Py_ssize_t rows = PyLong_AsSsize_t(args[3]);
+    PyObject *texts = PyErr_Occurred() ? NULL : PyList_New(rows);
+    for (Py_ssize_t row = 0; texts && row < rows; row++) {
+        Py_ssize_t start = (Py_ssize_t)offsets[row], length = (Py_ssize_t)offsets[row + 1] - start;
+        PyObject *text = valid[row] ? PyUnicode_DecodeUTF8(bytes + start, length, NULL) : Py_NewRef(Py_None);
+        if (!text || PyList_SetItem(texts, row, text))
+            Py_CLEAR(texts);
+    }
+    return texts;
+}
 
 /* The addresses and sizes that a call is passed. */
 typedef unsigned long long number;
@@ -603,8 +821,9 @@ CALL(import_array) {
 static PyMethodDef methods[] = {
     METHOD(custom), METHOD(locale), METHOD(parts), METHOD(name), METHOD(lookup_name), METHOD(reads_back),
     METHOD(prints_alike), METHOD(print_int), METHOD(parse_int), METHOD(print_plain), METHOD(print_units),
-    METHOD(parse_decimal), METHOD(take_units), METHOD(plains), METHOD(print_column_len), METHOD(print_column),
-    METHOD(parse_column), METHOD(export_schema), METHOD(export_array), METHOD(import_array), {NULL, NULL, 0, NULL},
+    METHOD(parse_decimal), METHOD(take_units), METHOD(plains), METHOD(quick), METHOD(know), METHOD(texts),
+    METHOD(print_column_len), METHOD(print_column), METHOD(parse_column), METHOD(export_schema), METHOD(export_array),
+    METHOD(import_array), {NULL, NULL, 0, NULL},
 };
 
 #define NUMBER(name) {#name, NUM_FORMAT_##name}
@@ -629,6 +848,7 @@ static int add_numbers(PyObject *module) {
 static PyModuleDef_Slot slots[] = {{Py_mod_exec, add_numbers}, {0, NULL}};
 
 static struct PyModuleDef definition = {
-    PyModuleDef_HEAD_INIT, .m_name = "num_format._native", .m_methods = methods, .m_slots = slots};
+    PyModuleDef_HEAD_INIT, .m_name = "num_format._native", .m_size = sizeof(PyObject *[KNOWN]), .m_methods = methods,
+    .m_slots = slots, .m_traverse = visit_known, .m_clear = clear_known, .m_free = free_known};
 
 PyMODINIT_FUNC PyInit__native(void) { return PyModuleDef_Init(&definition); }

@@ -3,6 +3,7 @@ from collections.abc import Callable
 from typing import TypeVar
 
 _Made = TypeVar("_Made")
+_Call = TypeVar("_Call", bound=Callable[..., object])
 
 LOCALES: int
 VERSION: int
@@ -60,9 +61,25 @@ def print_plain(format: bytes, plain: str) -> str | None: ...
 def print_units(format: bytes, units: int, scale: int) -> str: ...
 def parse_decimal(format: bytes, text: str, made: Callable[[str], _Made], way: int) -> _Made | tuple[int, int]: ...
 
+# Returns the C function of a name, with its documentation, which calls this one for what it does not take itself; and
+# keeps what these take of Python.
+def quick(name: str, function: _Call, documentation: str) -> _Call: ...
+def know(
+    format: type,
+    struct: str,
+    locale: Callable[[str], object],
+    decimal: type,
+    exact: Callable[[str], object],
+    rounded: Callable[..., str],
+    refusal: Callable[..., ValueError],
+) -> None: ...
+
 # Writes the units of Decimals from a row on, and returns the first row that it has to leave to Python.
 def take_units(numbers: list[object], units: int, row: int, scale: int) -> int: ...
 def plains(units: int, rows: int, scale: int) -> list[str]: ...
+
+# The texts of rows, by the addresses of offsets of 64 bits, the bytes and a bool for each row: None where it is not.
+def texts(offsets: int, data: int, valid: int, rows: int) -> list[str | None]: ...
 
 # Columns, by addresses and sizes in bytes. The scale of integers is -1. They return a length, or a status.
 def print_column_len(format: bytes, type: int, scale: int, values: int, values_size: int) -> int: ...

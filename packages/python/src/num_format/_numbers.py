@@ -3,13 +3,17 @@ from __future__ import annotations
 
 import decimal
 import operator
+from collections.abc import Callable
 from decimal import Decimal
-from typing import SupportsIndex, overload
+from typing import SupportsIndex, TypeVar, overload
 
-from ._errors import LATIN_ALONE, PLACED, Cause, FormatError, ParseError
-from ._format import Format, to_format
-from ._native import BAD_FORMAT, LENIENT, STRICT, TYPED, parse_int, print_int, print_plain, print_units
+from . import _native
+from ._errors import CAUSES, LATIN_ALONE, PLACED, Cause, FormatError, ParseError
+from ._format import Format, locale_format, to_format
+from ._native import LENIENT, STRICT, TYPED, parse_int, print_int, print_plain, print_units
 from ._native import parse_decimal as _parse_decimal
+
+_Call = TypeVar("_Call", bound=Callable[..., object])
 
 # The least and the largest number of units that a decimal has.
 _UNITS_MIN, _UNITS_MAX = -(2**127), 2**127 - 1
@@ -35,10 +39,19 @@ _INVISIBLE = "\u200e", "\u200f", "\u061c"
 _plain = Decimal.__str__
 
 
+def _quick(function: _Call) -> _Call:
+    """Puts a C function in the place of one here, which it calls for what it does not take itself."""
+    name, code = function.__name__, function.__code__  # type: ignore[attr-defined]
+    named = [f"{each}={value!r}" for each, value in function.__kwdefaults__.items()]  # type: ignore[attr-defined]
+    parameters = ", ".join([*code.co_varnames[: code.co_argcount], "*", *named])
+    return _native.quick(name, function, f"{name}({parameters})\n--\n\n{function.__doc__ or ''}")
+
+
 @overload
 def format(number: SupportsIndex | Decimal, format: Format | str, *, decimals: None = None) -> str: ...
 @overload
 def format(number: SupportsIndex | Decimal | float, format: Format | str, *, decimals: SupportsIndex) -> str: ...
+@_quick
 def format(
     number: SupportsIndex | Decimal | float, format: Format | str, *, decimals: SupportsIndex | None = None
 ) -> str:
@@ -74,9 +87,9 @@ def format(
         FormatError: No locale is found.
         TypeError: The number is of another type. A ``bool`` is refused, and so is a ``float`` without `decimals`.
     """
-    struct = (format if type(format) is Format else to_format(format))._bytes
     if decimals is not None:
-        return _decimal_text(_rounded(number, decimals), struct)
+        return _rounded_text(number, format, decimals)
+    struct = to_format(format)._bytes
     if type(number) is int:
         return print_int(struct, number)
     if isinstance(number, Decimal):
@@ -118,6 +131,12 @@ def _rounded(number: object, decimals: SupportsIndex) -> Decimal:
     if exact and exact.adjusted() > MOST_DECIMALS:
         raise OverflowError(_TOO_MANY_DIGITS)
     return exact.quantize(Decimal((0, (1,), -scale)), context=_ROUNDING)
+
+
+def _rounded_text(number: object, format: Format | str, decimals: SupportsIndex) -> str:
+    """Returns the text of a number that is rounded."""
+    struct = (format if type(format) is Format else to_format(format))._bytes
+    return _decimal_text(_rounded(number, decimals), struct)
 
 
 def to_scale(scale: SupportsIndex, what: str = "the scale") -> int:
@@ -201,6 +220,7 @@ def way_of(lenient: bool, typed: bool) -> int:
     return LENIENT if lenient else TYPED if typed else STRICT
 
 
+@_quick
 def parse(text: str, format: Format | str, *, lenient: bool = False, typed: bool = False) -> int:
     """Returns the number for which a text is canonical.
 
@@ -242,13 +262,14 @@ def parse(text: str, format: Format | str, *, lenient: bool = False, typed: bool
         TypeError: The text is no ``str``.
         ValueError: Both `lenient` and `typed` are set, or `lenient` is and the format has other digits than 0 to 9.
     """
-    struct = (format if type(format) is Format else to_format(format))._bytes
-    found = parse_int(struct, text, way_of(lenient, typed) if lenient or typed else STRICT)
+    struct = to_format(format)._bytes
+    found = parse_int(struct, text, way_of(lenient, typed))
     if isinstance(found, int):
         return found
     raise _refusal(text, format, *found, None if lenient or typed else (struct, True))
 
 
+@_quick
 def parse_decimal(text: str, format: Format | str, *, typed: bool = False) -> Decimal:
     """Returns the decimal for which a text is canonical.
 
@@ -297,15 +318,20 @@ def _refusal(
     text: str, format: Format | str, status: int, at: int, strictly: tuple[bytes, bool] | None
 ) -> ValueError:
     """Returns the error of a text that was refused with the status: at the byte, if the cause is at one."""
-    if status == BAD_FORMAT:
+    if status == _native.BAD_FORMAT:
         return ValueError(LATIN_ALONE)
-    cause = Cause(status)
-    if cause is Cause.AMBIGUOUS_FORMAT:
+    cause = CAUSES[status]
+    if status == _native.AMBIGUOUS_FORMAT:
         return FormatError("format", repr(format), cause)
-    if cause is Cause.NOT_UTF8:
+    if status == _native.NOT_UTF8:
         return ParseError(text, cause, first_surrogate(text))
-    index = len(text.encode()[:at].decode()) if cause in PLACED else None
-    return ParseError(text, cause, index, strictly=strictly)
+    index = None
+    if cause in PLACED:
+        index = at if text.isascii() else len(text.encode()[:at].decode())
+    return ParseError(text, cause, index, None, strictly)
+
+
+_native.know(Format, "_bytes", locale_format, Decimal, _exact, _rounded_text, _refusal)
 
 
 for _public in (format, text_width, parse, parse_decimal):

@@ -164,8 +164,7 @@ class StringColumn(Sequence["str | None"]):
             raise TypeError("a column is needed, not one text")
         texts = list(strings)
         try:
-            parts = list(map(str.encode, texts)) if texts and isinstance(texts[0], str) else texts
-            data = b"".join(parts)
+            data, parts = _joined(texts)
             lengths = np.fromiter(map(len, parts), dtype=np.int64, count=len(parts))
         except TypeError:
             valid = _valid(texts)
@@ -275,10 +274,12 @@ class StringColumn(Sequence["str | None"]):
         >>> StringColumn.from_strings(["1", "23"]).tolist()
         ['1', '23']
         """
-        rows = self._rows()
-        if self.validity is None:
-            return list(map(bytes.decode, rows))
-        return [None if row is None else row.decode() for row in rows]
+        offsets, data = self._own()
+        ends, valid = offsets.astype(np.int64), self.valid()
+        if ends[-1] == len(data) and (ends[:-1] <= ends[1:]).all():
+            return _native.texts(_address(ends), _address(data), _address(valid), len(valid))
+        # The offsets were changed, and are not as they have to be.
+        return [None if row is None else row.decode() for row in self._rows()]
 
     def _rows(self) -> list[Any]:
         """Returns the bytes of each row, and None for a null."""
@@ -928,6 +929,16 @@ def _to_offsets(lengths: npt.NDArray[Any]) -> npt.NDArray[Any]:
     offsets = np.zeros(len(lengths) + 1, dtype=np.int64)
     np.cumsum(lengths, out=offsets[1:])
     return offsets if offsets[-1] > np.iinfo(np.int32).max else offsets.astype(np.int32)
+
+
+def _joined(texts: list[Any]) -> tuple[bytes, list[Any]]:
+    """Returns the bytes of all texts, and these, or what each is as bytes: as long as it has bytes."""
+    if texts and isinstance(texts[0], str):
+        whole = "".join(texts)
+        if whole.isascii():
+            return whole.encode(), texts
+        texts = list(map(str.encode, texts))
+    return b"".join(texts), texts
 
 
 def _from_fixed(strings: npt.NDArray[np.bytes_]) -> StringColumn:
