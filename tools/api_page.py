@@ -27,7 +27,7 @@ HEAD = """<!DOCTYPE html><html lang="en"><meta charset="utf-8"><meta name="viewp
 <main><p>The calls in Rattle, which is Rust with contracts. C, C++, Python, Rust and SQL have others: see the
 <a href="../../README.md">README</a>. Below a call is its contract, which is proved;
 <a href="../../docs/THEOREMS.md">THEOREMS</a> says how to read one, and names in it link to their definitions.{main}</main>"""
-CRATES = ["num_format", "num_format_decimal", "num_format_typed", "num_format_digits"]
+CRATES = ["num_format", "num_format_decimal", "num_format_typed", "num_format_digits", "num_format_affixes"]
 LAWS = "laws"
 # The files in the order in which a reader needs them; others follow.
 ORDER = """lib buffer to_formatted_str to_formatted_string formatted write_formatted decimal parsing strict locale

@@ -1,0 +1,4 @@
+mod Examples
+pub mod OwnLemmas
+pub mod PartedLemmas
+pub mod SideLemmas
