@@ -195,15 +195,16 @@ def test_decimals_of_each_form():
     assert num_format.format(Loud("-2.5"), "en") == "-2.5"
 
 
-def test_a_column_of_decimals_is_faster_than_a_loop():
-    numbers = [Decimal(number).scaleb(-2) for number in range(-50_000, 50_000)]
+def test_a_column_of_units_is_faster_than_a_loop():
+    units = np.arange(-50_000, 50_000)
+    numbers = [Decimal(number).scaleb(-2) for number in units.tolist()]
     form = num_format.Format.locale("de")
-    column = columns.format_decimal_column(numbers, 2, form)
+    column = columns.format_decimal_column(units, 2, form)
     texts = column.tolist()
     works = {
-        "printed": lambda: columns.format_decimal_column(numbers, 2, form),
+        "printed": lambda: columns.format_decimal_column(units, 2, form),
         "printed in a loop": lambda: [num_format.format(number, form) for number in numbers],
-        "parsed": lambda: columns.parse_decimal_column(column, 2, form, object),
+        "parsed": lambda: columns.parse_decimal_column(column, 2, form),
         "parsed in a loop": lambda: [num_format.parse_decimal(text, form) for text in texts],
     }
     # In turns, so that a busy moment of the machine slows each of them.

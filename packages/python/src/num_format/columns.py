@@ -867,20 +867,21 @@ def _to_wide(units: npt.NDArray[Any] | list[Any], scale: int) -> npt.NDArray[Any
 
 def _from_objects(units: list[Any], scale: int) -> npt.NDArray[Any]:
     """Returns the units of Decimals, or those that integers are."""
-    are_decimals = [isinstance(each, decimal.Decimal) for each in units]
-    if not any(are_decimals):
-        whole = _whole(units)
-        if whole and not -(2**127) <= min(whole) <= max(whole) < 2**127:
-            raise OverflowError("the units are not in the range from -2**127 to 2**127 - 1")
-        return _halves(whole)
-    if not all(are_decimals):
-        found = type(units[are_decimals.index(False)]).__name__
-        raise TypeError(f"a column has either units or Decimals: one is a Decimal, and one of type {found}")
-    # A class that is made of Decimal may have texts of its own.
-    numbers = units if set(map(type, units)) == {decimal.Decimal} else list(map(decimal.Decimal, units))
-    wide, row = np.empty(len(numbers), dtype=WIDE), 0
-    while (row := _native.take_units(numbers, _address(wide), row, scale)) < len(numbers):
-        wide[row] = _halves([_units_at(numbers[row], scale)])[0]
+    if set(map(type, units)) != {decimal.Decimal}:
+        are_decimals = [isinstance(each, decimal.Decimal) for each in units]
+        if not any(are_decimals):
+            whole = _whole(units)
+            if whole and not -(2**127) <= min(whole) <= max(whole) < 2**127:
+                raise OverflowError("the units are not in the range from -2**127 to 2**127 - 1")
+            return _halves(whole)
+        if not all(are_decimals):
+            found = type(units[are_decimals.index(False)]).__name__
+            raise TypeError(f"a column has either units or Decimals: one is a Decimal, and one of type {found}")
+        # A class that is made of Decimal may have texts of its own.
+        units = list(map(decimal.Decimal, units))
+    wide, row = np.empty(len(units), dtype=WIDE), 0
+    while (row := _native.take_units(units, _address(wide), row, scale)) < len(units):
+        wide[row] = _halves([_units_at(units[row], scale)])[0]
         row += 1
     return wide
 
