@@ -145,6 +145,16 @@ def in_python(given):
     return partial(measured, made, HERE / "in_python.py", given=given)
 
 
+def in_javascript(given):
+    need("node", "wasm-opt")
+    module, package = given.library.parent / "wasm" / "num_format_c.wasm", given.folder / "js"
+    if not module.is_file():
+        raise Lack(f"there is no {module}: tools/build library --target wasm")
+    shutil.copytree(PACKAGES / "js", package, ignore=shutil.ignore_patterns("tests", "*.wasm"))
+    output(PACKAGES / "js" / "build", module, package / "num_format.wasm")
+    return partial(measured, "node", HERE / "in_javascript.mjs", package / "src" / "node.js", given=given)
+
+
 def copied_crate(given):
     """Copies the crate that measures, that of the package, and that once more as `num-format-copy` over the copy of the
     library."""

@@ -14,6 +14,7 @@ LANGUAGES = {
     "C": languages.in_c,
     "C++": languages.in_cpp,
     "Python": languages.in_python,
+    "JavaScript": languages.in_javascript,
     "SQLite": languages.in_sqlite,
     "PostgreSQL": languages.in_postgresql,
     "Programs": in_programs,

@@ -21,6 +21,8 @@ ROWS = [
     ("Python", "format, parse", "`num_format.format(", "`num_format.parse(", True),
     ("Python", 'f"{n:,}", int(replace ..)', '`f"{n:,}"`', "`int(text.replace(", False),
     ("Python", "babel.numbers", "`babel.numbers.format_decimal(", "`babel.numbers.parse_number(", False),
+    ("JavaScript", "form.format, form.parse", "`form.format(n)`", "`form.parse(text)", True),
+    ("JavaScript", "Intl, Number(replaceAll ..)", "`intl.format(n)`", "`Number(text.replaceAll(", False),
 ]
 
 # In pixels: the chart, where names end, where each panel starts and how wide it is, where rows start, and a row.

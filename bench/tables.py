@@ -31,10 +31,11 @@ VERSION = (ROOT / "VERSION").read_text(encoding="ascii").strip()
 HEAD = ["For", "Does", "This library", "ns", "A copy", "Beside it", "ns", "Median", "Lowest", "Highest", "Above"]
 
 # Each package's folder, by the languages that its README has the rows of.
-PACKAGES = {"rust": ["Rust"], "c": ["C", "C++"], "python": ["Python"], "sqlite": ["SQLite"], "postgresql": ["PostgreSQL"]}
+PACKAGES = {"rust": ["Rust"], "c": ["C", "C++"], "python": ["Python"], "js": ["JavaScript"], "sqlite": ["SQLite"]}
+PACKAGES |= {"postgresql": ["PostgreSQL"]}
 
 # What the words of the page tell in a line each.
-GROUPS = [["Rust"], ["C", "C++"], ["Python"], ["SQLite", "PostgreSQL"], ["Programs"]]
+GROUPS = [["Rust"], ["C", "C++"], ["Python"], ["JavaScript"], ["SQLite", "PostgreSQL"], ["Programs"]]
 
 # What README.md tells: a language, what is done, beside what, and in which words.
 TOLD = [

@@ -21,13 +21,14 @@ With --prove, side by side:
 - Once a program is proved, the cases of commands.py and the tables of tests/cases run on it as each compiler built it,
   and what no case can say: program_checks.py, filter_checks.py, stream_checks.py, memory_checks.py, which refuses
   memory, and the READMEs' commands.
-- `rt lib` proves and builds the library for C in this repository, and proves again what it stands on. It can't stand on
-  what `rt ci` built in the copy: `rt ci` cuts a library to its statements and leaves it without the stamp by which the
-  other commands of `rt` take one, and it builds no library for C. Over it run the tables in C and C++, the tests of
-  each package, which but for C replay them in its language, the programs of examples/ and two of packages/c/tests
-  (library_checks.py), digits beside ICU and Python (digit_checks.py), the counts of instructions (work_checks.py),
-  with the programs those of a release (packages/release/checks) and of what is measured (bench/test), and
-  own_project.py, which proves a crate in a repository of its own over what `rt lib` proved.
+- `rt lib` proves and builds the library for C in this repository, and tools/build that for WebAssembly. `rt lib` proves
+  again what the library stands on. It can't stand on what `rt ci` built in the copy: `rt ci` cuts a library to its
+  statements and leaves it without the stamp by which the other commands of `rt` take one, and it builds no library for
+  C. Over them run the tables in C and C++, the tests of each package, which but for C replay them in its language, the
+  programs of examples/ and two of packages/c/tests (library_checks.py), digits beside ICU and Python (digit_checks.py),
+  the counts of instructions (work_checks.py), with the programs those of a release (packages/release/checks) and of
+  what is measured (bench/test), and own_project.py, which proves a crate in a repository of its own over what `rt lib`
+  proved.
 
 The log has the time at which each crate was proved, and for each edit the error that refused it. At its end a table has
 what each crate took (bench/proof_times.py). The last lines name each check that was skipped and why, and say how many
@@ -68,7 +69,10 @@ REPLAYED = {"test_oracle": "rattle", "regroup": "regroup", "regroup_lines_cli": 
 REPLAY = ROOT / "tests" / "replay.py"
 
 # The packages whose test replays the tables in their language.
-REPLAYING = ["python", "rust", "sqlite", "postgresql"]
+REPLAYING = ["python", "rust", "js", "sqlite", "postgresql"]
+
+# The library for WebAssembly, over which are a package and a release.
+WASM = ["tools/build", "library", "--target", "wasm"]
 
 # How nice to `rt ci`, which has the longer way to go, is all else.
 SOON = 5
@@ -143,11 +147,12 @@ def waiting(top):
         yield {"library"}, f"the tables of cases by {name}", REPLAY, "--program", LIBRARY, name
     yield {"library"}, "a repository of one's own", TOOLS / "own_project.py", "--test"
     for test in sorted((ROOT / "packages").glob("*/test")):
-        yield {"library"}, str(test.relative_to(ROOT)), test, LIBRARY
+        needed = {"library", "wasm"} if test.parent.name == "js" else {"library"}
+        yield needed, str(test.relative_to(ROOT)), test, LIBRARY
     for script in "library_checks.py", "digit_checks.py", "work_checks.py":
         yield {"library"}, script, script, LIBRARY
     files = [LIBRARY, *(top / "crates" / crate / "out" / crate for crate in sorted(programs))]
-    yield {"library", *programs}, "packages/release/checks", ROOT / "packages" / "release" / "checks", *files
+    yield {"library", "wasm", *programs}, "packages/release/checks", ROOT / "packages" / "release" / "checks", *files
     yield {"library", *programs}, "bench/test", ROOT / "bench" / "test", files[0], files[-1]
 
 
@@ -166,13 +171,18 @@ def test(tally, is_whole, is_anew):
 
         start_documents(jobs)
         jobs.script("numfmt", "numfmt_rows.py")
-        built = {"is_counted": False, "then": lambda: start("library"), "cwd": library_checks.CRATE}
+        def lower():
+            """Starts what waits for the library for C, and builds that for WebAssembly, which is proved as it is."""
+            start("library")
+            jobs.start(" ".join(WASM), ["nice", "-n", str(SOON), *WASM], is_counted=False, then=lambda: start("wasm"))
+
+        built = {"is_counted": False, "then": lower, "cwd": library_checks.CRATE}
         jobs.start("rt lib", ["nice", "-n", str(SOON), "rt", "lib"], **built)
         for name in prove(tally, copy, is_anew):
             keep(copy, name)
             start(name)
         # What waits for a crate that is not proved says what is missing.
-        start(*(name for needed, *_ in left for name in needed - {"library"}))
+        start(*(name for needed, *_ in left for name in needed - {"library", "wasm"}))
     heading("what the proofs took")
     print("\n".join(watch.report(read_crates(ROOT))), flush=True)
 

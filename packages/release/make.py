@@ -3,11 +3,11 @@
     tools/release FOLDER [LIBRARY REGROUP REGROUP_LINES]
 
 FOLDER gets a tarball with the programs and the library for C, a wheel for Python, a Debian package with what the
-tarball has, a Rust crate, which is a tarball too, and a tarball each with the extension of SQLite and with that of the
-PostgreSQL of `pg_config`. Each has NOTICE, docs/GUIDE.md and examples, which for Rust and SQL are the code in the
-package's README. Without the files of the library and of the programs, they are those that tools/build builds, which
-proves what is missing. Two runs write the same bytes: all times are SOURCE_DATE_EPOCH, or else that of the last commit,
-or of VERSION. What lacks a tool or a header here is left out, with a line.
+tarball has, a Rust crate and an npm package, which are tarballs too, and a tarball each with the extension of SQLite
+and with that of the PostgreSQL of `pg_config`. Each has NOTICE, docs/GUIDE.md and examples, which for Rust and SQL are
+the code in the package's README. Without the files of the library and of the programs, they are those that tools/build
+builds, which proves what is missing. Two runs write the same bytes: all times are SOURCE_DATE_EPOCH, or else that of
+the last commit, or of VERSION. What lacks a tool or a header here is left out, with a line.
 """
 import gzip
 import os
@@ -22,6 +22,7 @@ from pathlib import Path
 ROOT = Path(__file__).resolve().parents[2]
 PYTHON = ROOT / "packages" / "python"
 RUST = ROOT / "packages" / "rust"
+JS = ROOT / "packages" / "js"
 SQLITE = ROOT / "packages" / "sqlite"
 POSTGRESQL = ROOT / "packages" / "postgresql"
 HERE = ROOT / "packages" / "release"
@@ -35,6 +36,9 @@ NAME = f"num-format-{VERSION}"
 CRATES = ROOT / "crates"
 BUILT = [CRATES / "num_format_c/out/libnum_format_c.a", CRATES / "regroup/out/regroup"]
 BUILT += [CRATES / "regroup_lines_cli/out/regroup_lines_cli"]
+
+# The library for WebAssembly, beside that for C.
+WASM = Path("wasm/num_format_c.wasm")
 
 # A link of a document to a file of the repository, and a README's code, traps and section of calls.
 LINK = re.compile(r"\[([^]]*)\]\((?!https?:|#)([^)#\s]*)(#[^)]*)?\)")
@@ -152,6 +156,25 @@ def make_crate(built, folder, made, time):
     return [pack(top, folder / f"{top.name}.crate", time)]
 
 
+def make_npm(built, folder, made, time):
+    """Makes a package as `npm pack` does, of the package for JavaScript without its tests, with the module in it."""
+    module = built[0].parent / WASM
+    missing = [] if module.is_file() else ["the library for WebAssembly"]
+    missing += [] if shutil.which("wasm-opt") else ["`wasm-opt`"]
+    if missing:
+        print(f"no npm package: {' and '.join(missing)} is missing")
+        return []
+    top = made / "package"
+    shutil.copytree(JS, top, ignore=shutil.ignore_patterns("build", "test", "tests", "*.wasm", "__pycache__"))
+    subprocess.run([JS / "build", module, top / "num_format.wasm"], stdout=subprocess.DEVNULL, check=True)
+    write(top / "README.md", (top / "README.md").read_text(encoding="utf-8"))
+    shutil.copy(ROOT / "NOTICE", top)
+    add_documents(top, (ROOT / "examples" / "web").iterdir())
+    page = top / "examples" / "index.html"
+    page.write_text(page.read_text(encoding="utf-8").replace("../../packages/js/", "../"), encoding="utf-8")
+    return [pack(top, folder / f"num-format-proved-{VERSION}.tgz", time)]
+
+
 def make_wheel(built, folder, made, time):
     python, lacking = environment.find_python(environment.NEEDED, [])
     if lacking:
@@ -254,12 +277,14 @@ def main():
         # It says what is missing.
         if subprocess.run([ROOT / "tools" / "build"], check=False).returncode:
             sys.exit(1)
+    if not built and shutil.which("wasm-opt") and not (BUILT[0].parent / WASM).is_file():
+        subprocess.run([ROOT / "tools" / "build", "library", "--target", "wasm"], check=False)
     built, time = built or BUILT, date()
     folder.mkdir(parents=True, exist_ok=True)
     os.umask(0o022)
     with tempfile.TemporaryDirectory() as name:
         made = Path(name)
-        for make in make_tarball, make_wheel, make_debian, make_crate, make_sqlite, make_postgresql:
+        for make in make_tarball, make_wheel, make_debian, make_crate, make_npm, make_sqlite, make_postgresql:
             print("".join(f"{file}\n" for file in make(built, folder, made, time)), end="", flush=True)
 
 
