@@ -29,34 +29,31 @@ function printers(name) {
   return { ours: form.format, intl: (number) => intl.format(number) };
 }
 
-/** The names of the set, with the language alone where all that were compared of it are in the set. */
+/** The names of the set: of a language most of whose locales are in it those that are not. */
 function shortened(set, compared) {
-  const languages = Map.groupBy ? Map.groupBy(compared, languageOf) : grouped(compared);
-  return [...languages].flatMap(([language, names]) => {
-    const found = names.filter((name) => set.has(name));
-    return found.length === names.length && names.length > 1 ? [`\`${language}\`, all`] : found.map((name) => `\`${name}\``);
+  const languages = new Set(compared.map((name) => name.split("-")[0]));
+  return [...languages].flatMap((language) => {
+    const names = compared.filter((name) => name.split("-")[0] === language);
+    const [found, others] = [names.filter((name) => set.has(name)), names.filter((name) => !set.has(name))];
+    if (found.length <= 1 || found.length <= 2 * others.length) return found.map(quoted);
+    return [`all \`${language}\`${others.length ? ` but ${others.map(quoted).join(" and ")}` : ""}`];
   });
 }
 
-const languageOf = (name) => name.split("-")[0];
-
-function grouped(names) {
-  const found = new Map();
-  for (const name of names) found.set(languageOf(name), [...(found.get(languageOf(name)) ?? []), name]);
-  return found;
-}
+const quoted = (name) => `\`${name}\``;
 
 /** The words that the document has. */
 function written() {
-  // Intl has no tag `en-US-POSIX`.
-  const names = locales().filter((name) => name !== "en-US-POSIX");
+  // Intl has no tag `root`, and other symbols for one that is no locale of its own.
+  const names = locales().filter((name) => name !== "root" && name !== "en-US-POSIX");
   const compared = Intl.NumberFormat.supportedLocalesOf(names);
   const differ = compared.filter((name) => {
     const { ours, intl } = printers(name);
     return NUMBERS.map(String).some((number) => ours(number) !== intl(number));
   });
   const rows = Object.entries(KINDS).map(([what, isSo]) => [what, new Set(differ.filter((name) => isSo(printers(name))))]);
-  const table = rows.filter(([, set]) => set.size).map(([what, set]) => `|${what}|${set.size}|${shortened(set, compared).join(", ")}|`);
+  const found = rows.filter(([, set]) => set.size);
+  const table = found.map(([what, set]) => `|${what}|${set.size}|${shortened(set, compared).join(", ")}|`);
   const { cldr, icu } = process.versions;
   const head = `Intl of CLDR ${cldr} (ICU ${icu}) prints otherwise under ${differ.length} of ${compared.length} locales:`;
   return [head, "", "|What|Locales|Which|", "|---|---:|---|", ...table].join("\n");

@@ -138,10 +138,10 @@ function widthOf(point) {
 /** Returns the index in a text of the character before which stand so many bytes. */
 export function indexOfByte(text, count) {
   let index = 0;
-  for (const character of text) {
-    if (count <= 0) break;
-    count -= widthOf(character.codePointAt(0));
-    index += character.length;
+  while (count > 0) {
+    const point = text.codePointAt(index);
+    count -= widthOf(point);
+    index += point > 0xffff ? 2 : 1;
   }
   return index;
 }

@@ -155,7 +155,8 @@ export class NumberFormat {
     const status = this.#read(text, options);
     if (status === 0) return { state: "number", value: readDecimal() };
     if (errors.LACKING.has(status) && BLANK.test(text)) return { state: "empty" };
-    return { state: "refused", cause: causeOf(status), ...this.#placeOf(text, status, options) };
+    const index = indexOf(text, status);
+    return { state: "refused", cause: causeOf(status), index, expected: this.#expected(text, index, options) };
   }
 
   /** Returns the decimals that texts are, or throws a `ParseError` with the row of the first that is none. */
@@ -244,24 +245,24 @@ export class NumberFormat {
     if (status === errors.AMBIGUOUS_FORMAT) {
       return new FormatError("format", JSON.stringify(this.resolvedOptions()), causeOf(status));
     }
-    return new ParseError(text, causeOf(status), { ...this.#placeOf(text, status, options), row });
+    const index = indexOf(text, status);
+    return new ParseError(text, causeOf(status), { index, expected: this.#expected(text, index, options), row });
   }
 
-  /** At which character a text is refused, and which one the format has there. */
-  #placeOf(text, status, { mode = "strict", integer } = {}) {
-    if (status === errors.NOT_UTF8) return { index: text.search(LONE_SURROGATE), expected: undefined };
-    if (!errors.PLACED.has(status)) return { index: undefined, expected: undefined };
-    const index = library.indexOfByte(text, library.readAt());
-    return { index, expected: mode === "strict" ? this.#expected(text, index, integer) : undefined };
-  }
-
-  /** Which symbol of the format a person meant by a character, if the text is a number but for such ones. */
-  #expected(text, index, integer) {
-    if (!KEYBOARD.test(text[index]) || this.#read(text, { mode: "keyboard", integer }) < 0) return undefined;
+  /** Which symbol of the format a person meant by the character at an index, if the text is a number but for such ones. */
+  #expected(text, index, { mode = "strict", integer } = {}) {
+    if (mode !== "strict" || index === undefined || !KEYBOARD.test(text[index])) return undefined;
+    if (this.#read(text, { mode: "keyboard", integer }) < 0) return undefined;
     const printed = library.printUnits(library.readUnits(), library.readScale());
     if (!printed.startsWith(text.slice(0, index))) return undefined;
     return readTexts().find((symbol) => symbol && printed.startsWith(symbol, index));
   }
+}
+
+/** At which code unit a text is refused with a status, if at one. */
+function indexOf(text, status) {
+  if (errors.PLACED.has(status)) return library.indexOfByte(text, library.readAt());
+  return status === errors.NOT_UTF8 ? text.search(LONE_SURROGATE) : undefined;
 }
 
 /** The decimal that was parsed. */
