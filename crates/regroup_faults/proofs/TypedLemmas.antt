@@ -41,7 +41,7 @@ module _ (f : FormatData) (utf8 : HasUtf8Texts f) where
       Decides-like _
       (λ h. (
         record {
-          unambiguous = (plain-marks f utf8 h.0).unambiguous;
+          unambiguous = (plain-marks f utf8 h.0).marks.unambiguous;
           separator = h.1.0.0;
           mark = h.1.0.1;
           given = h.1.1.0;
