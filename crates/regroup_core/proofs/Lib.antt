@@ -1,7 +1,9 @@
 -- The proofs of this crate.
 mod AddLemmas
 mod Common
+mod HeaderLemmas
 mod LineLemmas
 mod PartLemmas
+mod PieceLemmas
 mod PlaceLemmas
 mod RecordLemmas

@@ -1,10 +1,10 @@
 -- What becomes of the parts of a record, one after the other.
 use Rattle.regroup_core.proofs.Common.{ℕ, ◌+◌, ◌-◌, ◌<◌, ◌≤◌, ◌≡◌, Bool, true, false, ◌&&◌, ◌||◌, if◌then◌else◌, List, [], ◌∷◌, ◌++◌, length, take, drop}
-use Rattle.regroup_core.proofs.Common.{get_or, slice_range, Option, Some, None, Result, Ok, Err, refl, sym, ap, subst, ◌∙◌, arith, append-nil}
+use Rattle.regroup_core.proofs.Common.{get_or, slice_range, Option, Some, None, Result, Ok, Err, refl, sym, ap, ◌∙◌, arith, append-nil}
 use Rattle.regroup_core.proofs.Common.{append_assoc, drop-append-le, drop-drop, drop_more, length-take-le, take-add, take_rest, take-append-drop, leb-false}
 use Rattle.regroup_core.proofs.Common.{lt-leb, le-leb, fold, join_with_byte, max, nat_le, unwrap_or, result_map_both, delimiter_of, is_field}
-use Rattle.regroup_core.proofs.Common.{number_of, parts_of, quotes_of, end_at, end_of, Start, fields_len, IsOkAnd}
-use Rattle.regroup_core.proofs.PartLemmas.{parts-split, split-joined, split-some}
+use Rattle.regroup_core.proofs.Common.{number_of, parts_of, quotes_of, Start, fields_len, IsOkAnd}
+use Rattle.regroup_core.proofs.PartLemmas.{Step, split-joined, split-some}
 use Rattle.regroup_core.specs.Lines.{after, enough, field_converted, is_at_most, is_chosen, is_chosen_from, line_of, part_converted}
 use Rattle.regroup_core.specs.Lines.{parts_converted, wanted, with_first}
 use Rattle.regroup_core.specs.declared.line.Cause.{Cause}
@@ -175,23 +175,6 @@ module _ {E : Type 0} (plan : Plan) (converted : List ℕ → Result (List ℕ) 
         ∙ ap (λ l. Ok ((begun.front ++ slice_range fields kept start) ++ l)) (split-joined q d Start (drop start fields))
         ∙ ap Ok (append_assoc begun.front (slice_range fields kept start) (drop start fields) ∙ ap (λ l. begun.front ++ l) bytes)
 
-    -- the part that begins at `start` ends at `end`, and these are after it
-    pub record Step (start end : ℕ) : Type 0 where
-      pub rest : List (List ℕ)
-      pub split : parts (drop start fields) ≡ slice_range fields start end ∷ rest
-      pub within : end ≤ length fields
-      pub last : end ≡ length fields → rest ≡ []
-      pub next : end < length fields → (rest ≡ parts (drop (end + 1) fields)) × (get_or fields end 0 ≡ d)
-
-    pub step : (start len : ℕ) → start ≤ length fields → len ≤ length (slice_range fields start (length fields))
-        → end_of q d Start (slice_range fields start (length fields)) ≡ end_at len (slice_range fields start (length fields))
-        → Step start (start + len)
-    step start len low within end_is =
-        let left = take_rest fields start in
-        let found = parts-split q d fields start len (subst (λ l. end_of q d Start l ≡ end_at len l) left end_is) low
-        (subst (λ l. len ≤ length l) left within) in
-        record { rest = found.0; split = found.1; within = found.2; last = found.3; next = found.4 }
-
     -- the same after a part that ends at `end`, and is followed by these
     pub record Past (old : List ℕ) (kept end count : ℕ) (rest : List (List ℕ)) (now : List ℕ) : Type 0 where
       pub front : List ℕ
@@ -199,9 +182,8 @@ module _ {E : Type 0} (plan : Plan) (converted : List ℕ → Result (List ℕ) 
       pub is : whole ≡ after (front ++ slice_range fields kept end) (tailed d (all count rest))
       pub ordered : kept ≤ end
 
-    module _ {old now : List ℕ} {kept start count : ℕ} (begun : Begun old kept start count now) (end : ℕ) (low : start ≤ end)
-        (rest : List (List ℕ)) (split : parts (drop start fields) ≡ slice_range fields start end ∷ rest) (n : ℕ)
-        (counted : n ≡ next_number count (slice_range fields start end)) where
+    module _ {old now : List ℕ} {kept start count end : ℕ} (begun : Begun old kept start count now)
+        (next : Step plan.dialect.separation fields start end) (n : ℕ) (counted : n ≡ next_number count (slice_range fields start end)) where
       abbrev part : List ℕ
       part = slice_range fields start end
 
@@ -209,20 +191,20 @@ module _ {E : Type 0} (plan : Plan) (converted : List ℕ → Result (List ℕ) 
       before = begun.front ++ slice_range fields kept start
 
       here : (first : Result (List ℕ) (Cause E)) → part_converted plan converted n part ≡ first
-          → whole ≡ after before (followed first (tailed d (all n rest)))
-      here first is = begun.is ∙ ap (λ l. after before (joined d (all count l))) split
-          ∙ ap (after before) (joined-first d (part_converted plan converted (next_number count part) part) (all (next_number count part) rest))
-          ∙ ap (λ k. after before (followed (part_converted plan converted k part) (tailed d (all k rest)))) (sym counted)
-          ∙ ap (λ x. after before (followed x (tailed d (all n rest)))) is
+          → whole ≡ after before (followed first (tailed d (all n next.rest)))
+      here first is = begun.is ∙ ap (λ l. after before (joined d (all count l))) next.split
+          ∙ ap (after before) (joined-first d (part_converted plan converted (next_number count part) part) (all (next_number count part) next.rest))
+          ∙ ap (λ k. after before (followed (part_converted plan converted k part) (tailed d (all k next.rest)))) (sym counted)
+          ∙ ap (λ x. after before (followed x (tailed d (all n next.rest)))) is
 
-      pub past-kept : (is_field plan.dialect.separation part && is_chosen list n) ≡ false → Past old kept end n rest now
+      pub past-kept : (is_field plan.dialect.separation part && is_chosen list n) ≡ false → Past old kept end n next.rest now
       past-kept plain = record {
         front = begun.front;
         added = begun.added;
-        is = here (Ok part) (part-plain n part plain) ∙ after-after before part (tailed d (all n rest))
-            ∙ ap (λ l. after l (tailed d (all n rest))) (append_assoc begun.front (slice_range fields kept start) part
-            ∙ ap (λ l. begun.front ++ l) (sym (slice-more fields kept start end begun.ordered low)));
-        ordered = let order = begun.ordered in omega (arith, order, low);
+        is = here (Ok part) (part-plain n part plain) ∙ after-after before part (tailed d (all n next.rest))
+            ∙ ap (λ l. after l (tailed d (all n next.rest))) (append_assoc begun.front (slice_range fields kept start) part
+            ∙ ap (λ l. begun.front ++ l) (sym (slice-more fields kept start end begun.ordered next.ordered)));
+        ordered = let order = begun.ordered in let later = next.ordered in omega (arith, order, later);
       }
 
       module _ (chosen : (is_field plan.dialect.separation part && is_chosen list n) ≡ true) where
@@ -230,18 +212,18 @@ module _ {E : Type 0} (plan : Plan) (converted : List ℕ → Result (List ℕ) 
         part-chosen = rw chosen refl
 
         pub past-converted : (new : List ℕ) → IsOkAnd (after (slice_range fields kept start) (field_converted plan converted n part))
-            (λ bytes. new ≡ now ++ bytes) → Past old end end n rest new
+            (λ bytes. new ≡ now ++ bytes) → Past old end end n next.rest new
         past-converted new adds = by (field_converted plan converted n part) refl adds
           where
             by : (first : Result (List ℕ) (Cause E)) → field_converted plan converted n part ≡ first →
-                IsOkAnd (after (slice_range fields kept start) first) (λ bytes. new ≡ now ++ bytes) → Past old end end n rest new
+                IsOkAnd (after (slice_range fields kept start) first) (λ bytes. new ≡ now ++ bytes) → Past old end end n next.rest new
             by (Ok text) is adds = record {
               front = before ++ text;
               added = adds ∙ ap (λ l. l ++ (slice_range fields kept start ++ text)) begun.added
                   ∙ append_assoc old begun.front (slice_range fields kept start ++ text)
                   ∙ ap (λ l. old ++ l) (sym (append_assoc begun.front (slice_range fields kept start) text));
-              is = here (Ok text) (part-chosen ∙ is) ∙ after-after before text (tailed d (all n rest))
-                  ∙ ap (λ l. after l (tailed d (all n rest))) (sym (ap (λ l. (before ++ text) ++ l) (none_between fields end)
+              is = here (Ok text) (part-chosen ∙ is) ∙ after-after before text (tailed d (all n next.rest))
+                  ∙ ap (λ l. after l (tailed d (all n next.rest))) (sym (ap (λ l. (before ++ text) ++ l) (none_between fields end)
                   ∙ append-nil (before ++ text)));
               ordered = omega arith;
             }

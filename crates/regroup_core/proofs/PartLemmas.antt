@@ -3,14 +3,15 @@ use Rattle.regroup_core.proofs.Common.{ℕ, ◌+◌, ◌-◌, ◌<◌, ◌≤◌
 use Rattle.regroup_core.proofs.Common.{suc, Option, Some, None, refl, sym, ap, ◌∙◌, arith, cases_Bool, inl, inr, eqb-true, drop-drop, length-drop}
 use Rattle.regroup_core.proofs.Common.{take_all, get_or-drop, option_map, nat_lt, ltb-false, Decides-ltb, is_inside, is_end, after_byte, end_at}
 use Rattle.regroup_core.proofs.Common.{end_of, split_at, onto_first, Within, Start, ◌&&◌, ◌==◌, not, join_with_byte}
+use Rattle.regroup_core.proofs.Common.{subst, take_rest, parts_of, quotes_of, delimiter_of, Separation}
 use Rattle.regroup_core.proofs.RecordLemmas.{end-here, end-none}
 
 -- the place of an end in a text with one byte more
-later : (found : Option ℕ) (n : ℕ) → option_map (λ k. suc k) found ≡ Some n → (m : ℕ) × (found ≡ Some m) × (n ≡ suc m)
+pub later : (found : Option ℕ) (n : ℕ) → option_map (λ k. suc k) found ≡ Some n → (m : ℕ) × (found ≡ Some m) × (n ≡ suc m)
 later None n is = absurd (cc)
 later (Some m) n is = (m, refl, cc)
 
-later-none : (found : Option ℕ) → option_map (λ k. suc k) found ≡ None → found ≡ None
+pub later-none : (found : Option ℕ) → option_map (λ k. suc k) found ≡ None → found ≡ None
 later-none None is = refl
 later-none (Some m) is = absurd (cc)
 
@@ -135,3 +136,23 @@ module _ (q : Option ℕ) (e : ℕ) where
               (λ last. refl),
               (λ next. absurd (omega (arith, over, next))),
             )
+
+-- the part that begins at `start` ends at `end`, and these are after it
+pub record Step (separation : Separation) (fields : List ℕ) (start end : ℕ) : Type 0 where
+  pub rest : List (List ℕ)
+  pub split : parts_of separation (drop start fields) ≡ slice_range fields start end ∷ rest
+  pub ordered : start ≤ end
+  pub within : end ≤ length fields
+  pub last : end ≡ length fields → rest ≡ []
+  pub next : end < length fields → (rest ≡ parts_of separation (drop (end + 1) fields)) × (get_or fields end 0 ≡ delimiter_of separation)
+
+pub step : (separation : Separation) (fields : List ℕ) (start len : ℕ) → start ≤ length fields
+    → len ≤ length (slice_range fields start (length fields)) →
+    end_of (quotes_of separation) (delimiter_of separation) Start (slice_range fields start (length fields))
+    ≡ end_at len (slice_range fields start (length fields)) → Step separation fields start (start + len)
+step separation fields start len low within end_is =
+    let left = take_rest fields start in
+    let found = parts-split (quotes_of separation) (delimiter_of separation) fields start len
+    (subst (λ l. end_of (quotes_of separation) (delimiter_of separation) Start l ≡ end_at len l) left end_is) low
+    (subst (λ l. len ≤ length l) left within) in
+    record { rest = found.0; split = found.1; ordered = omega arith; within = found.2; last = found.3; next = found.4 }

@@ -6,3 +6,5 @@ pub mod Lines
 pub mod Adding
 pub mod Examples
 pub mod Parts
+pub mod Header
+pub mod Laws

@@ -64,7 +64,8 @@ end_at n text = if nat_lt n (length text) then Some n else None
 abbrev pub split_at : (quotes : Option ℕ) → (end : ℕ) → Within → List ℕ → List (List ℕ)
 split_at quotes end within [] = [] ∷ []
 split_at quotes end within (b ∷ text) =
-    if is_end end within b then [] ∷ split_at quotes end Start text else onto_first b (split_at quotes end (after_byte quotes within b) text)
+    if is_end end within b then [] ∷ split_at quotes end Start text
+    else onto_first b (split_at quotes end (after_byte quotes within b) text)
 
 -- whether there is such a byte
 abbrev pub has_end : (quotes : Option ℕ) → (end : ℕ) → Within → List ℕ → Bool

@@ -16,6 +16,8 @@
 
 mod codec;
 mod dialect;
+mod header;
+pub mod laws;
 mod line;
 mod place;
 mod plan;
@@ -24,6 +26,7 @@ mod text;
 
 pub use codec::{Codec, Text};
 pub use dialect::{Dialect, Separation};
+pub use header::{NameError, field_named};
 pub use line::{Cause, convert};
 pub use place::Field;
 pub use plan::{FieldRange, Plan};

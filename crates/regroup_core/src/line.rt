@@ -118,7 +118,7 @@ fn append_last<E>(plan: &Plan, count: u64, rest: &[u8], out: &mut Vec<u8>) -> Re
 
 /// Returns how many bytes of a record are those of its fields.
 #[inline]
-fn fields_len(line: &[u8]) -> usize
+pub(crate) fn fields_len(line: &[u8]) -> usize
     ensures value { result ≡ fields_len line.now }
     ensures within { result ≤ length line.now }
 {
@@ -211,8 +211,8 @@ fn append_in_quotes<'x>(
     text: &'x [u8],
     out: &mut Vec<u8>,
 ) -> Result<(), AllocError>
-    ensures { AddsBytes (before.now ++ ((34 ∷ doubled (field.now.before.now ++ text.now ++ field.now.after.now) ++ 34 ∷ [])
-        ++ field.now.tail.now))
+    ensures { AddsBytes (before.now ++
+        ((34 ∷ doubled (field.now.before.now ++ text.now ++ field.now.after.now) ++ 34 ∷ []) ++ field.now.tail.now))
         out.old.items out.new.items result }
 {
     append_all(

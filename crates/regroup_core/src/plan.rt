@@ -7,8 +7,8 @@ use crate::dialect::Dialect;
 
 /// Fields that follow one another, by their numbers, which are counted from 1.
 ///
-/// The fields 3, 4 and 5 are `FieldRange { first: 3, last: Some(5) }`: a record has to have all of them. All fields from
-/// 2 on are `FieldRange { first: 2, last: None }`: a record has to have field 2.
+/// The fields 3, 4 and 5 are `FieldRange { first: 3, last: Some(5) }`: a record has to have all of them. All fields
+/// from 2 on are `FieldRange { first: 2, last: None }`: a record has to have field 2.
 #[derive(Clone, Copy, Debug, PartialEq, Eq)]
 pub struct FieldRange {
     /// The number of the first field.

@@ -73,8 +73,8 @@ impl Within {
 }
 
 /// Searches bytes for the end of a record that begins before them or with them. `within` is where their first byte is:
-/// [`Within::Start`] for the first bytes of a record. It is then where the byte after them is, or that start again if the
-/// record ends in them.
+/// [`Within::Start`] for the first bytes of a record. It is then where the byte after them is, or that start again if
+/// the record ends in them.
 ///
 /// So a record may come in pieces: the next bytes go on where these left off, as if both were given at once.
 ///

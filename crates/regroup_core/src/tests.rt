@@ -1,7 +1,7 @@
 //! Records, fields and lines by RFC 4180 and by hand.
 use crate::{
-    Cause, Codec, Dialect, Field, FieldRange, Plan, RecordEnd, Separation, Text, Within, convert,
-    record_end,
+    Cause, Codec, Dialect, Field, FieldRange, NameError, Plan, RecordEnd, Separation, Text, Within,
+    convert, field_named, record_end,
 };
 use std::alloc::{AllocError, Global};
 use std::test::Fail;
@@ -166,4 +166,21 @@ fn causes(rt: HostRuntime) -> Result<(), Fail> {
         assert_eq!(rt; out.as_slice(), b">".as_slice());
     }
     Ok(())
+}
+
+#[test]
+fn names(rt: HostRuntime) {
+    let (csv, header) = (
+        Separation::Quoted(b','),
+        b"id, net ,\"net \"\"EUR\"\"\",id\r",
+    );
+    assert_eq!(rt; field_named(csv, header, b"net"), Ok(2));
+    assert_eq!(rt; field_named(csv, header, b"net \"EUR\""), Ok(3));
+    assert_eq!(rt; field_named(csv, header, b"id"), Err(NameError::Doubled));
+    assert_eq!(rt; field_named(csv, header, b"NET"), Err(NameError::Unknown));
+    assert_eq!(rt; field_named(Separation::Blanks, b"  a  b \r", b"b"), Ok(2));
+    assert_eq!(rt;
+        field_named(Separation::Blanks, b"  a  b \r", b""),
+        Err(NameError::Unknown)
+    );
 }

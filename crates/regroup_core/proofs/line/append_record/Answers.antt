@@ -4,7 +4,8 @@ use Rattle.regroup_core.specs.Adding.{Adds}
 use Rattle.regroup_core.specs.Lines.{enough}
 use Rattle.regroup_core.proofs.AddLemmas.{adds-after, adds-cause}
 use Rattle.regroup_core.proofs.LineLemmas.{Past, begun-done, begun-none, line-cause, line-done, line-last, part-cause, past-converted}
-use Rattle.regroup_core.proofs.LineLemmas.{past-kept, past-last, past-next, step}
+use Rattle.regroup_core.proofs.LineLemmas.{past-kept, past-last, past-next}
+use Rattle.regroup_core.proofs.PartLemmas.{step}
 use Rattle.std.proofs.lemmas.Result.{err_from_is_err_and}
 use Rattle.regroup_core.proofs.line.append_record.Goals as goal
 use Rattle.regroup_core.proofs.line.append_record.Goals.{then-converts+in_ok-append_field, else-converts}
@@ -16,33 +17,31 @@ parts-init g c =
 pub returns-in_err-append_field : goal.returns-in_err-append_field
 returns-in_err-append_field g c =
     let begun = c.parts.invariant in
-    let next = step c.args.plan.now (g.C.Codec.converted c.args.codec.now) (take c.fields_len.result c.args.line.now) c.parts.start
+    let next = step c.args.plan.now.dialect.separation (take c.fields_len.result c.args.line.now) c.parts.start
     c.part_len.result begun.within c.part_len.ensures.within c.part_len.ensures.end in
     let p = err_from_is_err_and c.from_residual.result c.from_residual.ensures.1 in
     rw (p.1, p.2) (adds-cause _ _ _ c.parts.out.items _ _ begun.added
     (λ cause is. line-cause c.args.plan.now (g.C.Codec.converted c.args.codec.now) c.args.line.now c.fields_len.result
     c.fields_len.ensures.value cause
     (part-cause c.args.plan.now (g.C.Codec.converted c.args.codec.now) (take c.fields_len.result c.args.line.now) begun
-    (c.parts.start + c.part_len.result) (omega arith) next.rest next.split c.number_after-count.result c.number_after-count.ensures.number
+    next c.number_after-count.result c.number_after-count.ensures.number
     (sym c.converts.ensures ∙ c.if-converts.true) cause is)) c.in_err-append_field.field-0.0 c.in_err-append_field.ensures)
 
 pub returns-then-end-fields : goal.returns-then-end-fields
 returns-then-end-fields g c =
     let begun = c.parts.invariant in
-    let next = step c.args.plan.now (g.C.Codec.converted c.args.codec.now) (take c.fields_len.result c.args.line.now) c.parts.start
+    let next = step c.args.plan.now.dialect.separation (take c.fields_len.result c.args.line.now) c.parts.start
     c.part_len.result begun.within c.part_len.ensures.within c.part_len.ensures.end in
     let past : Past c.args.plan.now (g.C.Codec.converted c.args.codec.now) (take c.fields_len.result c.args.line.now) c.args.out.now.items
     c.if-converts.kept (c.parts.start + c.part_len.result) c.number_after-count.result next.rest c.if-converts.out.items =
     elim c.if-converts.branch [
       | then-converts+in_ok-append_field w ↦ rw (w.out-is, w.kept-is)
           (past-converted c.args.plan.now (g.C.Codec.converted c.args.codec.now) (take c.fields_len.result c.args.line.now) begun
-          (c.parts.start + c.part_len.result) (omega arith) next.rest next.split c.number_after-count.result
-          c.number_after-count.ensures.number (sym c.converts.ensures ∙ w.if-converts.true) w.append_field.new.out.items
+          next c.number_after-count.result c.number_after-count.ensures.number (sym c.converts.ensures ∙ w.if-converts.true) w.append_field.new.out.items
           w.in_ok-append_field.ensures)
       | else-converts w ↦ rw (w.out-is, w.kept-is)
           (past-kept c.args.plan.now (g.C.Codec.converted c.args.codec.now) (take c.fields_len.result c.args.line.now) begun
-          (c.parts.start + c.part_len.result) (omega arith) next.rest next.split c.number_after-count.result
-          c.number_after-count.ensures.number (sym c.converts.ensures ∙ w.if-converts.false))
+          next c.number_after-count.result c.number_after-count.ensures.number (sym c.converts.ensures ∙ w.if-converts.false))
     ] in
     let within = c.fields_len.ensures.within in
     let ordered = past.ordered in
@@ -59,20 +58,18 @@ returns-then-end-fields g c =
 pub parts-preserved : goal.parts-preserved
 parts-preserved g c =
     let begun = c.parts.invariant in
-    let next = step c.args.plan.now (g.C.Codec.converted c.args.codec.now) (take c.fields_len.result c.args.line.now) c.parts.start
+    let next = step c.args.plan.now.dialect.separation (take c.fields_len.result c.args.line.now) c.parts.start
     c.part_len.result begun.within c.part_len.ensures.within c.part_len.ensures.end in
     let past : Past c.args.plan.now (g.C.Codec.converted c.args.codec.now) (take c.fields_len.result c.args.line.now) c.args.out.now.items
     c.if-converts.kept (c.parts.start + c.part_len.result) c.number_after-count.result next.rest c.if-converts.out.items =
     elim c.if-converts.branch [
       | then-converts+in_ok-append_field w ↦ rw (w.out-is, w.kept-is)
           (past-converted c.args.plan.now (g.C.Codec.converted c.args.codec.now) (take c.fields_len.result c.args.line.now) begun
-          (c.parts.start + c.part_len.result) (omega arith) next.rest next.split c.number_after-count.result
-          c.number_after-count.ensures.number (sym c.converts.ensures ∙ w.if-converts.true) w.append_field.new.out.items
+          next c.number_after-count.result c.number_after-count.ensures.number (sym c.converts.ensures ∙ w.if-converts.true) w.append_field.new.out.items
           w.in_ok-append_field.ensures)
       | else-converts w ↦ rw (w.out-is, w.kept-is)
           (past-kept c.args.plan.now (g.C.Codec.converted c.args.codec.now) (take c.fields_len.result c.args.line.now) begun
-          (c.parts.start + c.part_len.result) (omega arith) next.rest next.split c.number_after-count.result
-          c.number_after-count.ensures.number (sym c.converts.ensures ∙ w.if-converts.false))
+          next c.number_after-count.result c.number_after-count.ensures.number (sym c.converts.ensures ∙ w.if-converts.false))
     ] in
     let within = next.within in
     let most = c.number_after-count.ensures.most in
