@@ -38,7 +38,8 @@ module _ (separation : Separation) (name fields : List ℕ) where
     pub counted : count ≤ start
 
   module _ {found : Result ℕ NameError} {start count : ℕ} (sought : Sought found start count) {end : ℕ}
-      (next : Step separation fields start end) (n : ℕ) (number : n ≡ number_of separation count (slice_range fields start end)) (now : Result ℕ NameError)
+      (next : Step separation fields start end) (n : ℕ) (number : n ≡ number_of separation count (slice_range fields start end))
+      (now : Result ℕ NameError)
       (now_is : now ≡ also found (is_named separation name (slice_range fields start end)) n) where
     here : whole ≡ with_found now (numbers_named separation name n next.rest)
     here =

@@ -6,4 +6,5 @@ mod LineLemmas
 mod PartLemmas
 mod PieceLemmas
 mod PlaceLemmas
+mod RangeLemmas
 mod RecordLemmas

@@ -1,8 +1,11 @@
 -- What becomes of the parts of a record, one after the other.
-use Rattle.regroup_core.proofs.Common.{ℕ, ◌+◌, ◌-◌, ◌<◌, ◌≤◌, ◌≡◌, Bool, true, false, ◌&&◌, ◌||◌, if◌then◌else◌, List, [], ◌∷◌, ◌++◌, length, take, drop}
+use Rattle.regroup_core.proofs.Common.{ℕ, ◌+◌, ◌-◌, ◌<◌, ◌≤◌, ◌≡◌, Bool, true, false, ◌&&◌, ◌||◌, if◌then◌else◌, List, [], ◌∷◌, ◌++◌}
+use Rattle.regroup_core.proofs.Common.{length, take, drop}
 use Rattle.regroup_core.proofs.Common.{get_or, slice_range, Option, Some, None, Result, Ok, Err, refl, sym, ap, ◌∙◌, arith, append-nil}
-use Rattle.regroup_core.proofs.Common.{append_assoc, drop-append-le, drop-drop, drop_more, length-take-le, take-add, take_rest, take-append-drop, leb-false}
-use Rattle.regroup_core.proofs.Common.{lt-leb, le-leb, fold, join_with_byte, max, nat_le, unwrap_or, result_map_both, delimiter_of, is_field}
+use Rattle.regroup_core.proofs.Common.{append_assoc, drop-append-le, drop-drop, drop_more, length-take-le, take-add, take_rest}
+use Rattle.regroup_core.proofs.Common.{take-append-drop, leb-false}
+use Rattle.regroup_core.proofs.Common.{lt-leb, le-leb, fold, join_with_byte, max, nat_le, unwrap_or, result_map_both, delimiter_of}
+use Rattle.regroup_core.proofs.Common.{is_field}
 use Rattle.regroup_core.proofs.Common.{number_of, parts_of, quotes_of, Start, fields_len, IsOkAnd}
 use Rattle.regroup_core.proofs.PartLemmas.{Step, split-joined, split-some}
 use Rattle.regroup_core.specs.Lines.{after, enough, field_converted, is_at_most, is_chosen, is_chosen_from, line_of, part_converted}
@@ -34,7 +37,8 @@ wanted-low (range ∷ list) count most low past =
     by (Some l) others is = grind (arith, leb-false)
 
 -- what is true of a part that is a field, and of another one
-number-by : (P : ℕ → Bool → Type 0) (is : Bool) (before : ℕ) → P (before + 1) true → P before false → P (if is then before + 1 else before) is
+number-by : (P : ℕ → Bool → Type 0) (is : Bool) (before : ℕ) → P (before + 1) true → P before false
+    → P (if is then before + 1 else before) is
 number-by P true before field other = field
 number-by P false before field other = other
 
@@ -135,7 +139,8 @@ module _ {E : Type 0} (plan : Plan) (converted : List ℕ → Result (List ℕ) 
       by true = ap Ok (append-nil bytes)
       by false = refl
 
-  tail-some : (count : ℕ) (texts : List (List ℕ)) → 0 < length texts → tailed d (all count texts) ≡ after (d ∷ []) (joined d (all count texts))
+  tail-some : (count : ℕ) (texts : List (List ℕ)) → 0 < length texts
+      → tailed d (all count texts) ≡ after (d ∷ []) (joined d (all count texts))
   tail-some count [] some = absurd (omega arith)
   tail-some count (part ∷ texts) some =
       tailed-first d (part_converted plan converted (next_number count part) part) (all (next_number count part) texts)
@@ -165,13 +170,14 @@ module _ {E : Type 0} (plan : Plan) (converted : List ℕ → Result (List ℕ) 
     }
 
     -- no part is changed from here on
-    pub begun-done : {old now : List ℕ} {kept start count : ℕ} (begun : Begun old kept start count now) → is_chosen_from list (count + 1) ≡ false
-        → whole ≡ Ok (begun.front ++ drop kept fields)
+    pub begun-done : {old now : List ℕ} {kept start count : ℕ} (begun : Begun old kept start count now)
+        → is_chosen_from list (count + 1) ≡ false → whole ≡ Ok (begun.front ++ drop kept fields)
     begun-done {old} {now} {kept} {start} {count} begun past =
         let bytes : slice_range fields kept start ++ drop start fields ≡ drop kept fields =
         ap (λ l. slice_range fields kept start ++ l) (sym (take_rest fields start))
         ∙ sym (slice-more fields kept start (length fields) begun.ordered begun.within) ∙ take_rest fields kept in
-        begun.is ∙ ap (λ r. after (begun.front ++ slice_range fields kept start) (joined d r)) (all-plain count (parts (drop start fields)) past)
+        begun.is ∙ ap (λ r. after (begun.front ++ slice_range fields kept start) (joined d r))
+        (all-plain count (parts (drop start fields)) past)
         ∙ ap (λ l. Ok ((begun.front ++ slice_range fields kept start) ++ l)) (split-joined q d Start (drop start fields))
         ∙ ap Ok (append_assoc begun.front (slice_range fields kept start) (drop start fields) ∙ ap (λ l. begun.front ++ l) bytes)
 
@@ -183,7 +189,8 @@ module _ {E : Type 0} (plan : Plan) (converted : List ℕ → Result (List ℕ) 
       pub ordered : kept ≤ end
 
     module _ {old now : List ℕ} {kept start count end : ℕ} (begun : Begun old kept start count now)
-        (next : Step plan.dialect.separation fields start end) (n : ℕ) (counted : n ≡ next_number count (slice_range fields start end)) where
+        (next : Step plan.dialect.separation fields start end) (n : ℕ)
+        (counted : n ≡ next_number count (slice_range fields start end)) where
       abbrev part : List ℕ
       part = slice_range fields start end
 
@@ -193,7 +200,8 @@ module _ {E : Type 0} (plan : Plan) (converted : List ℕ → Result (List ℕ) 
       here : (first : Result (List ℕ) (Cause E)) → part_converted plan converted n part ≡ first
           → whole ≡ after before (followed first (tailed d (all n next.rest)))
       here first is = begun.is ∙ ap (λ l. after before (joined d (all count l))) next.split
-          ∙ ap (after before) (joined-first d (part_converted plan converted (next_number count part) part) (all (next_number count part) next.rest))
+          ∙ ap (after before) (joined-first d (part_converted plan converted (next_number count part) part)
+          (all (next_number count part) next.rest))
           ∙ ap (λ k. after before (followed (part_converted plan converted k part) (tailed d (all k next.rest)))) (sym counted)
           ∙ ap (λ x. after before (followed x (tailed d (all n next.rest)))) is
 
@@ -237,7 +245,8 @@ module _ {E : Type 0} (plan : Plan) (converted : List ℕ → Result (List ℕ) 
     pub past-last : {old now : List ℕ} {kept end count : ℕ} {rest : List (List ℕ)} (past : Past old kept end count rest now) → rest ≡ []
         → end ≡ length fields → whole ≡ after past.front (enough plan count (drop kept fields))
     past-last {old} {now} {kept} {end} {count} {rest} past none last =
-        past.is ∙ ap (λ l. after (past.front ++ slice_range fields kept end) (tailed d (all count l))) none ∙ sym (after-after past.front (slice_range fields kept end) (tailed d (all count [])))
+        past.is ∙ ap (λ l. after (past.front ++ slice_range fields kept end) (tailed d (all count l))) none
+        ∙ sym (after-after past.front (slice_range fields kept end) (tailed d (all count [])))
         ∙ ap (after past.front) (tail-none count (slice_range fields kept end)
         ∙ ap (enough plan count) (ap (slice_range fields kept) last ∙ take_rest fields kept))
 
@@ -258,7 +267,8 @@ module _ {E : Type 0} (plan : Plan) (converted : List ℕ → Result (List ℕ) 
               ∙ after-after (past.front ++ slice_range fields kept end) (d ∷ []) (joined d (all count (parts (drop (end + 1) fields))))
               ∙ ap (λ l. after l (joined d (all count (parts (drop (end + 1) fields)))))
               (append_assoc past.front (slice_range fields kept end) (d ∷ []) ∙ ap (λ l. past.front ++ l)
-              (ap (λ l. slice_range fields kept end ++ l) (sym there) ∙ sym (slice-more fields kept end (end + 1) past.ordered (omega arith))));
+              (ap (λ l. slice_range fields kept end ++ l) (sym there)
+              ∙ sym (slice-more fields kept end (end + 1) past.ordered (omega arith))));
           ordered = omega (arith, order);
           within = omega (arith, low);
           counted = counted;
@@ -286,8 +296,8 @@ module _ {E : Type 0} (plan : Plan) (converted : List ℕ → Result (List ℕ) 
     pub line-cause : (cause : Cause E) → whole (take len text) ≡ Err cause → line_of plan converted text ≡ Err cause
     line-cause cause is = line-is ∙ ap ended is
 
-    pub line-done : (kept : ℕ) (front : List ℕ) → kept ≤ len → len ≤ length text → whole (take len text) ≡ Ok (front ++ drop kept (take len text))
-        → line_of plan converted text ≡ Ok (front ++ drop kept text)
+    pub line-done : (kept : ℕ) (front : List ℕ) → kept ≤ len → len ≤ length text
+        → whole (take len text) ≡ Ok (front ++ drop kept (take len text)) → line_of plan converted text ≡ Ok (front ++ drop kept text)
     line-done kept front low within is =
         line-is ∙ ap ended is ∙ ap Ok (append_assoc front (drop kept (take len text)) (drop len text)
         ∙ ap (λ l. front ++ l) (kept-all kept low within))

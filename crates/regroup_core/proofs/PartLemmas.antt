@@ -1,7 +1,10 @@
 -- The parts of a text by where the first one ends.
-use Rattle.regroup_core.proofs.Common.{ℕ, ◌+◌, ◌-◌, ◌<◌, ◌≤◌, ◌≡◌, Bool, true, false, List, [], ◌∷◌, length, take, drop, get_or, slice_range}
-use Rattle.regroup_core.proofs.Common.{suc, Option, Some, None, refl, sym, ap, ◌∙◌, arith, cases_Bool, inl, inr, eqb-true, drop-drop, length-drop}
-use Rattle.regroup_core.proofs.Common.{take_all, get_or-drop, option_map, nat_lt, ltb-false, Decides-ltb, is_inside, is_end, after_byte, end_at}
+use Rattle.regroup_core.proofs.Common.{ℕ, ◌+◌, ◌-◌, ◌<◌, ◌≤◌, ◌≡◌, Bool, true, false, List, [], ◌∷◌, length, take, drop, get_or}
+use Rattle.regroup_core.proofs.Common.{slice_range}
+use Rattle.regroup_core.proofs.Common.{suc, Option, Some, None, refl, sym, ap, ◌∙◌, arith, cases_Bool, inl, inr, eqb-true, drop-drop}
+use Rattle.regroup_core.proofs.Common.{length-drop}
+use Rattle.regroup_core.proofs.Common.{take_all, get_or-drop, option_map, nat_lt, ltb-false, Decides-ltb, is_inside, is_end, after_byte}
+use Rattle.regroup_core.proofs.Common.{end_at}
 use Rattle.regroup_core.proofs.Common.{end_of, split_at, onto_first, Within, Start, ◌&&◌, ◌==◌, not, join_with_byte}
 use Rattle.regroup_core.proofs.Common.{subst, take_rest, parts_of, quotes_of, delimiter_of, Separation}
 use Rattle.regroup_core.proofs.RecordLemmas.{end-here, end-none}
@@ -96,10 +99,12 @@ module _ (q : Option ℕ) (e : ℕ) where
         (split_at q e Start (drop start text) ≡ slice_range text start (start + len) ∷ split_at q e Start (drop (start + len + 1) text))
         × (get_or text (start + len) 0 ≡ e)
     parts-next low =
-        let found = split-end Start (drop start text) len (end_is ∙ end-here len (drop start text) (omega (arith, low, length-drop start text))) in
+        let found = split-end Start (drop start text) len
+        (end_is ∙ end-here len (drop start text) (omega (arith, low, length-drop start text))) in
         let sum : start + (len + 1) ≡ start + len + 1 = omega arith in (
           found.0 ∙ ap (λ k. take k (drop start text) ∷ split_at q e Start (drop (len + 1) (drop start text))) (sym part_len)
-              ∙ ap (λ l. slice_range text start (start + len) ∷ split_at q e Start l) (drop-drop (len + 1) start text ∙ ap (λ k. drop k text) sum),
+              ∙ ap (λ l. slice_range text start (start + len) ∷ split_at q e Start l)
+              (drop-drop (len + 1) start text ∙ ap (λ k. drop k text) sum),
           sym (get_or-drop start text len 0) ∙ found.1,
         )
 

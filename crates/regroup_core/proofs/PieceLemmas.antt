@@ -1,5 +1,6 @@
 -- Records that come in pieces.
-use Rattle.regroup_core.proofs.Common.{ℕ, ◌+◌, ◌≡◌, ◌==◌, List, [], ◌∷◌, ◌++◌, length, take, suc, Option, Some, None, refl, sym, ap, ◌∙◌, arith}
+use Rattle.regroup_core.proofs.Common.{ℕ, ◌+◌, ◌≡◌, ◌==◌, List, [], ◌∷◌, ◌++◌, length, take, suc, Option, Some, None, refl, sym, ap, ◌∙◌}
+use Rattle.regroup_core.proofs.Common.{arith}
 use Rattle.regroup_core.proofs.Common.{cases_Bool, inl, inr, cond, option_map, fold-append, sum_by-append, is_end, after_byte, after_text}
 use Rattle.regroup_core.proofs.Common.{end_of, ends_in, state_after, through_end, Within}
 use Rattle.regroup_core.proofs.PartLemmas.{later, later-none}

@@ -4,7 +4,8 @@ use Rattle.regroup_core.proofs.Common.{◌++◌, length, take, drop, get_or, sli
 use Rattle.regroup_core.proofs.Common.{◌∙◌, arith, eq-eqb, All, or_from, or_parts}
 use Rattle.regroup_core.proofs.Common.{length-drop, take_more, take_rest, false_from_ne_true}
 use Rattle.regroup_core.proofs.Common.{fold-append, take-add, unwrap_or, option_map, nat_lt, is_quote, is_inside, is_end, after_bare}
-use Rattle.regroup_core.proofs.Common.{after_byte, after_text, end_at, end_of, has_end, Searched, Within, Start, ends_in, is_some, ◌||◌, sum_by-append}
+use Rattle.regroup_core.proofs.Common.{after_byte, after_text, end_at, end_of, has_end, Searched, Within, Start, ends_in, is_some, ◌||◌}
+use Rattle.regroup_core.proofs.Common.{sum_by-append}
 use Rattle.memchr.specs.Find.{IsFirstByte, Nowhere, Passes, is_byte, is_byte2}
 use Rattle.regroup_core.specs.declared.record.Within.TheVariants.{Bare, Quoted}
 
@@ -136,7 +137,8 @@ module _ (q : Option ℕ) (e : ℕ) where
   lt_never : (n : ℕ) → nat_lt n 0 ≡ false
   lt_never n = grind arith
 
-  later : (n m : ℕ) → option_map (λ k. suc k) (if nat_lt n m then Some n else None) ≡ (if nat_lt (suc n) (suc m) then Some (suc n) else None)
+  later : (n m : ℕ) → option_map (λ k. suc k) (if nat_lt n m then Some n else None)
+      ≡ (if nat_lt (suc n) (suc m) then Some (suc n) else None)
   later n m = grind arith
 
   end-is : (w : Within) (text : List ℕ) (n : ℕ) → n ≤ length text → has_end q e w (take n text) ≡ false → Stops w text n

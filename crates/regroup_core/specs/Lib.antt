@@ -8,3 +8,4 @@ pub mod Examples
 pub mod Parts
 pub mod Header
 pub mod Laws
+pub mod Ranges

@@ -19,7 +19,8 @@ pub enum NameError {
 }
 
 /// Returns the number of the field of a header that has this name: its text without the ASCII whitespace around it and,
-/// where it is in quotes, without these and with each doubled quote as one. The header is without the byte that ends it.
+/// where it is in quotes, without these and with each doubled quote as one. The header is without the byte that ends
+/// it.
 ///
 /// ```rust
 /// field_named(Separation::Quoted(b','), b"id,\"net \"\"EUR\"\"\"", b"net \"EUR\"")    // Ok(2)

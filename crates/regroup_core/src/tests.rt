@@ -1,7 +1,7 @@
 //! Records, fields and lines by RFC 4180 and by hand.
 use crate::{
-    Cause, Codec, Dialect, Field, FieldRange, NameError, Plan, RecordEnd, Separation, Text, Within,
-    convert, field_named, record_end,
+    Cause, Codec, Dialect, Field, FieldRange, ListError, NameError, Plan, RecordEnd, Selector,
+    Separation, Text, Within, convert, field_named, find_ranges, record_end,
 };
 use std::alloc::{AllocError, Global};
 use std::test::Fail;
@@ -183,4 +183,28 @@ fn names(rt: HostRuntime) {
         field_named(Separation::Blanks, b"  a  b \r", b""),
         Err(NameError::Unknown)
     );
+}
+
+#[test]
+fn ranges(rt: HostRuntime) -> Result<(), Fail> {
+    let (all, name) = (
+        FieldRange {
+            first: 5,
+            last: None,
+        },
+        Selector::Name(b"net"),
+    );
+    let list = [name, Selector::Range(all), name];
+    let tabs = Separation::Delimited(b'\t');
+    let found = find_ranges(rt.alloc(), tabs, b"id\tnet", &list)
+        .ok()
+        .ok_or("no ranges")?;
+    let net = FieldRange {
+        first: 2,
+        last: Some(2),
+    };
+    assert_eq!(rt; found.as_slice(), [net, all, net].as_slice());
+    let refused = find_ranges(rt.alloc(), tabs, b"net", &[name, Selector::Name(b"id")]).err();
+    assert_eq!(rt; refused, Some(ListError::Name(1, NameError::Unknown)));
+    Ok(())
 }

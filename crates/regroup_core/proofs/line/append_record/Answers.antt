@@ -37,7 +37,8 @@ returns-then-end-fields g c =
     elim c.if-converts.branch [
       | then-converts+in_ok-append_field w ↦ rw (w.out-is, w.kept-is)
           (past-converted c.args.plan.now (g.C.Codec.converted c.args.codec.now) (take c.fields_len.result c.args.line.now) begun
-          next c.number_after-count.result c.number_after-count.ensures.number (sym c.converts.ensures ∙ w.if-converts.true) w.append_field.new.out.items
+          next c.number_after-count.result c.number_after-count.ensures.number (sym c.converts.ensures ∙ w.if-converts.true)
+          w.append_field.new.out.items
           w.in_ok-append_field.ensures)
       | else-converts w ↦ rw (w.out-is, w.kept-is)
           (past-kept c.args.plan.now (g.C.Codec.converted c.args.codec.now) (take c.fields_len.result c.args.line.now) begun
@@ -50,7 +51,8 @@ returns-then-end-fields g c =
     omega (arith, ordered, last, length-take-le c.fields_len.result c.args.line.now within) in
     rw (line-last c.args.plan.now (g.C.Codec.converted c.args.codec.now) c.args.line.now c.fields_len.result c.fields_len.ensures.value
     c.if-converts.kept c.number_after-count.result past.front low within
-    (past-last c.args.plan.now (g.C.Codec.converted c.args.codec.now) (take c.fields_len.result c.args.line.now) past (next.last last) last))
+    (past-last c.args.plan.now (g.C.Codec.converted c.args.codec.now) (take c.fields_len.result c.args.line.now) past
+    (next.last last) last))
     (adds-after _ _ c.if-converts.out.items _ past.front _ past.added
     (subst (λ l. Adds (enough c.args.plan.now c.number_after-count.result l) c.if-converts.out.items c.append_last.new.out.items
     c.append_last.result) (take_rest c.args.line.now c.if-converts.kept) c.append_last.ensures))
@@ -65,7 +67,8 @@ parts-preserved g c =
     elim c.if-converts.branch [
       | then-converts+in_ok-append_field w ↦ rw (w.out-is, w.kept-is)
           (past-converted c.args.plan.now (g.C.Codec.converted c.args.codec.now) (take c.fields_len.result c.args.line.now) begun
-          next c.number_after-count.result c.number_after-count.ensures.number (sym c.converts.ensures ∙ w.if-converts.true) w.append_field.new.out.items
+          next c.number_after-count.result c.number_after-count.ensures.number (sym c.converts.ensures ∙ w.if-converts.true)
+          w.append_field.new.out.items
           w.in_ok-append_field.ensures)
       | else-converts w ↦ rw (w.out-is, w.kept-is)
           (past-kept c.args.plan.now (g.C.Codec.converted c.args.codec.now) (take c.fields_len.result c.args.line.now) begun

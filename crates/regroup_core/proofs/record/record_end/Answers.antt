@@ -19,7 +19,8 @@ ends_inside-line_ends-requires c =
     λ bare. elim c.if-is_some.branch [
       | then-is_some w ↦ absurd (cc)
       | else-is_some w ↦
-          ends-bare c.quotes-quotes.result c.args.dialect.line_end c.args.within.now c.find_end-len.result.1 c.args.bytes.now c.find_end-len.result.0
+          ends-bare c.quotes-quotes.result c.args.dialect.line_end c.args.within.now c.find_end-len.result.1
+          c.args.bytes.now c.find_end-len.result.0
           (or_from _ _ (sym c.is_some.ensures ∙ w.if-is_some.false) (sym w.is_inside-may_have_ends.ensures ∙ sym w.may_have_ends-is ∙ bare))
           c.find_end-len.ensures.searched
     ]
