@@ -48,6 +48,7 @@ OTHERS = {"Value": "serde_json::Value", "str::from_utf8": "std::str", "Cursor": 
           "one_digit": "num_format_int::to_formatted_str::one_digit",
           "two_digits": "num_format_int::to_formatted_str::two_digits",
           "is_plain": "num_format_parsing::symbols::is_plain",
+          "parse_text": "num_format_decimal::TextParser",
           "digits_size": "num_format_writers::formatted::digits_size",
           "digit_count": "num_format_writers::formatted::digit_count",
           "no_break_space_len": "regroup_lines::rules::no_break_space_len"}
