@@ -16,7 +16,7 @@ pub enum Separation {
 
 /// How records and their fields are told apart.
 ///
-/// ```rust
+/// ```text
 /// Dialect { separation: Separation::Quoted(b','), line_end: b'\n' }    // CSV
 /// ```
 #[derive(Clone, Copy, Debug, PartialEq, Eq)]
@@ -30,7 +30,7 @@ pub struct Dialect {
 impl Separation {
     /// Returns the byte that is between two fields.
     ///
-    /// ```rust
+    /// ```text
     /// Separation::Blanks.delimiter()    // b' '
     /// ```
     #[inline]

@@ -22,7 +22,7 @@ pub enum NameError {
 /// where it is in quotes, without these and with each doubled quote as one. The header is without the byte that ends
 /// it.
 ///
-/// ```rust
+/// ```text
 /// field_named(Separation::Quoted(b','), b"id,\"net \"\"EUR\"\"\"", b"net \"EUR\"")    // Ok(2)
 /// field_named(Separation::Quoted(b','), b"id,net,net", b"net")                         // Err(Doubled)
 /// ```

@@ -44,7 +44,7 @@ impl<E> From<AllocError> for Cause<E> {
 /// A field that is converted is in quotes then exactly if its new text needs them, where fields may be in quotes. A
 /// carriage return at the end of the record is no field's.
 ///
-/// ```rust
+/// ```text
 /// // With a codec from `en` to `de`, of fields 2 and 3:
 /// convert(&plan, &codec, b"a,\"1,000\",2.5\r", &mut out)    // Ok(()), and a,1.000,"2,5"\r is appended
 /// convert(&plan, &codec, b"a,1", &mut out)                  // Err(Few(2, 3))

@@ -37,7 +37,7 @@ impl<T: Drop> From<AllocFailed<T>> for ListError {
 /// Returns the ranges of the parts of a list in turn. Names are looked for in a header, which is without the byte that
 /// ends it.
 ///
-/// ```rust
+/// ```text
 /// let list = [Selector::Name(b"net"), Selector::Range(FieldRange { first: 5, last: None })];
 /// find_ranges(alloc, Separation::Delimited(b'\t'), b"id\tnet", &list)    // Ok: field 2, and all from 5 on
 /// ```

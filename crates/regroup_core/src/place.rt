@@ -25,7 +25,7 @@ pub struct Field<'a> {
 impl<'a> Field<'a> {
     /// Returns the parts of a field.
     ///
-    /// ```rust
+    /// ```text
     /// Field::of(Separation::Quoted(b','), b"\"1,000 \" ").text    // b"1,000"
     /// ```
     #[inline(always)]

@@ -47,7 +47,7 @@ impl FieldRange {
 impl Plan<'_> {
     /// Returns whether the field of this number is converted.
     ///
-    /// ```rust
+    /// ```text
     /// let list = [FieldRange { first: 2, last: None }];
     /// Plan { dialect, list: &list, copies_empty: false }.chooses(3)    // true
     /// ```
@@ -76,7 +76,7 @@ impl Plan<'_> {
 
     /// Returns how many fields a record has to have.
     ///
-    /// ```rust
+    /// ```text
     /// let list = [FieldRange { first: 3, last: Some(5) }, FieldRange { first: 2, last: None }];
     /// Plan { dialect, list: &list, copies_empty: false }.wanted()    // 5
     /// ```

@@ -78,7 +78,7 @@ impl Within {
 ///
 /// So a record may come in pieces: the next bytes go on where these left off, as if both were given at once.
 ///
-/// ```rust
+/// ```text
 /// let dialect = Dialect { separation: Separation::Quoted(b','), line_end: b'\n' };
 /// let mut within = Within::Start;
 /// record_end(dialect, &mut within, b"1,\"a")        // RecordEnd { end: None, line_ends: 0 }
