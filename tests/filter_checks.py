@@ -180,7 +180,7 @@ def check_sum(tally, program):
     total = sum(Decimal(second.replace(",", "")) for _, second, _, _ in rows)
     with tempfile.TemporaryDirectory() as folder:
         for quoting in [csv.QUOTE_MINIMAL, csv.QUOTE_ALL]:
-            (Path(folder) / "sales.csv").write_bytes(written(table, quoting, "\r\n"))
+            (Path(folder) / words[-1]).write_bytes(written(table, quoting, "\r\n"))
             ended = regroup(program, words, b"", cwd=folder)
             compare(tally, f"quoting {quoting}", ended, 0, f"{total:.2f}\n".encode(), b"")
 
